@@ -1,0 +1,3 @@
+pub mod Edges
+pub mod Sheets
+pub mod Fits

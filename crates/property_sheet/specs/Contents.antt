@@ -1,0 +1,53 @@
+-- What a property holds: its lines, its clocks and its largest constant; and the limits that they keep.
+use mathlib.Core.Path.{_≡_}
+use mathlib.Core.List.{List, [], _∷_}
+use Prim.Native.Nat.{ℕ, _≤_, _<_}
+use lib.ListN.{length}
+use Rattle.std.specs.declared.option.Option.the-variants.{Some}
+use Rattle.std.specs.shelf.Maps.{nth}
+use Rattle.device.specs.Terms.{Condition-lawful}
+pub use Rattle.property_sheet.specs.declared.Line.{Line}
+pub use Rattle.property_sheet.specs.declared.Line.the-variants.{True, False, Both, Either, SomeDelay, EveryDelay, SomeAction, EveryAction, Reset, Holds}
+
+pub record Content : Type 0 where
+  pub lines : List Line
+  pub clocks : ℕ
+  pub constant : ℕ
+
+-- a new property: the single line true
+abbrev pub always : Content
+always = record { lines = True ∷ []; clocks = 0; constant = 0 }
+
+-- the ten kinds of line with their numbers
+abbrev pub kind-of : Line → ℕ
+kind-of True = 0
+kind-of False = 1
+kind-of (Both p q) = 2
+kind-of (Either p q) = 3
+kind-of (SomeDelay p) = 4
+kind-of (EveryDelay p) = 5
+kind-of (SomeAction a p) = 6
+kind-of (EveryAction a p) = 7
+kind-of (Reset c p) = 8
+kind-of (Holds t) = 9
+
+-- a line names lines, an action, a clock and a condition that there are: n lines, c clocks, constants up to k
+abbrev pub Line-lawful : ℕ → ℕ → ℕ → Line → Type 0
+Line-lawful n c k True = Unit {0}
+Line-lawful n c k False = Unit {0}
+Line-lawful n c k (Both p q) = (p < n) × (q < n)
+Line-lawful n c k (Either p q) = (p < n) × (q < n)
+Line-lawful n c k (SomeDelay p) = p < n
+Line-lawful n c k (EveryDelay p) = p < n
+Line-lawful n c k (SomeAction a p) = (1 ≤ a) × (a ≤ 16) × (p < n)
+Line-lawful n c k (EveryAction a p) = (1 ≤ a) × (a ≤ 16) × (p < n)
+Line-lawful n c k (Reset x p) = (x < c) × (p < n)
+Line-lawful n c k (Holds t) = Condition-lawful c k t
+
+-- the limits of a property
+pub record Content-lawful (s : Content) : Type 0 where
+  pub lines-low : 1 ≤ length (s .lines)
+  pub lines-high : length (s .lines) ≤ 200
+  pub clocks : s .clocks ≤ 2
+  pub constant : s .constant ≤ 15
+  pub lines : (p : ℕ) (l : Line) → nth (s .lines) p ≡ Some l → Line-lawful (length (s .lines)) (s .clocks) (s .constant) l

@@ -1,0 +1,4 @@
+pub mod Contents
+pub mod Records
+pub mod Sheets
+pub mod Fits

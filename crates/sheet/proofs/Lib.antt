@@ -1,0 +1,4 @@
+pub mod Checks
+pub mod Clipped
+pub mod Directories
+pub mod Passed
