@@ -2,3 +2,4 @@ pub mod Checks
 pub mod Clipped
 pub mod Directories
 pub mod Passed
+pub mod Fitting

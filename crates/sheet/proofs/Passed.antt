@@ -63,3 +63,16 @@ module _ {F : Type 0} (limits : ℕ → List (Limit F)) where
   passed-all zero m h = refl
   passed-all (suc n) m h =
       passed-append (limits m) (of-each limits (m + 1) n) (h m (omega arith) (omega arith)) (passed-all n (m + 1) (λ k lo hi. h k (omega arith) (omega arith)))
+
+-- every limit of a list, one by one
+abbrev pub All-kept : {F : Type 0} → List (Limit F) → Type 0
+All-kept [] = Unit {0}
+All-kept (l ∷ ls) = (l .kept ≡ true) × All-kept ls
+
+pub kept-from : {F : Type 0} (ls : List (Limit F)) → Passed ls → All-kept ls
+kept-from [] e = tt
+kept-from (l ∷ ls) e = let p = passed-parts l ls e in (p .0, kept-from ls (p .1))
+
+pub passed-from : {F : Type 0} (ls : List (Limit F)) → All-kept ls → Passed ls
+passed-from [] k = refl
+passed-from (l ∷ ls) k = passed-more l ls (k .0) (passed-from ls (k .1))
