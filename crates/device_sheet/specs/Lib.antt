@@ -1,3 +1,4 @@
 pub mod Edges
 pub mod Sheets
 pub mod Fits
+pub mod Tables

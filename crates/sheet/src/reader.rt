@@ -86,6 +86,7 @@ impl<'a> Reader<'a> {
     pub fn sections(&self) -> Sections<'a>
         ensures records { λ r. ⌜ now (r .records) ≡ section-of (now (now (self .entry) .sheet)) 0 ⌝ }
         ensures conditions { λ r. ⌜ now (r .conditions) ≡ section-of (now (now (self .entry) .sheet)) 1 ⌝ }
+        ensures short { λ r. ⌜ length (now (r .records)) ≤ 65535 ⌝ }
     {
         Sections { records: self.section(0), conditions: self.section(1) }
     }

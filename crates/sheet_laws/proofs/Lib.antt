@@ -1,0 +1,4 @@
+pub mod Rising
+pub mod Faults
+pub mod First
+pub mod Sheets
