@@ -28,10 +28,10 @@ true-from : (b : Bool) → T b → b ≡ true
 true-from true t = refl
 true-from false t = absurd t
 
-leZ-true : (a b : ℤ) → leZ a b ≡ true → a ≤ℤ b
+pub leZ-true : (a b : ℤ) → leZ a b ≡ true → a ≤ℤ b
 leZ-true a b e = leZ-yes (T-from (leZ a b) e)
 
-true-leZ : (a b : ℤ) → a ≤ℤ b → leZ a b ≡ true
+pub true-leZ : (a b : ℤ) → a ≤ℤ b → leZ a b ≡ true
 true-leZ a b h = true-from (leZ a b) (h .le)
 
 -- one condition

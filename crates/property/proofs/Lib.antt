@@ -1,0 +1,3 @@
+mod Layers
+mod Places
+mod Filled
