@@ -41,14 +41,25 @@ module _ (n c m : ℕ) (es : List ℕ) (at e : ℕ) where
 
   pub edge-passed : Edge-fits n c m es e → Passed (edge-limits n c m es at e)
   edge-passed f =
-      passed-from (edge-limits n c m es at e)
-      (lt-ltb (source-at es e) n (f .source),
-      (lt-ltb (target-at es e) n (f .target),
-      (and-from (leb 1 (action-at es e)) (leb (action-at es e) 16) (le-leb 1 (action-at es e) (f .action-low)) (le-leb (action-at es e) 16 (f .action-high)),
-      (lt-ltb (resets-at es e) (2 ^ c) (f .resets),
-      (le-leb (first-at es e) m (f .first),
-      (and-from (leb (count-at es e) 8) (leb (first-at es e + count-at es e) m) (le-leb (count-at es e) 8 (f .count)) (le-leb (first-at es e + count-at es e) m (f .last)),
-      (eq-eqb (reserved-at es e) 0 (f .reserved), tt)))))))
+      passed-from (edge-limits n c m es at e) (
+        lt-ltb (source-at es e) n (f .source),
+        (
+          lt-ltb (target-at es e) n (f .target),
+          (
+            and-from (leb 1 (action-at es e)) (leb (action-at es e) 16) (le-leb 1 (action-at es e) (f .action-low)) (le-leb (action-at es e) 16 (f .action-high)),
+            (
+              lt-ltb (resets-at es e) (2 ^ c) (f .resets),
+              (
+                le-leb (first-at es e) m (f .first),
+                (
+                  and-from (leb (count-at es e) 8) (leb (first-at es e + count-at es e) m) (le-leb (count-at es e) 8 (f .count)) (le-leb (first-at es e + count-at es e) m (f .last)),
+                  (eq-eqb (reserved-at es e) 0 (f .reserved), tt),
+                ),
+              ),
+            ),
+          ),
+        ),
+      )
 
 -- the whole sheet
 module _ (b : List ℕ) where
@@ -79,11 +90,16 @@ module _ (b : List ℕ) where
   shared f = record {
     sheet = f .sheet;
     letter = f .letter;
-    counts =
-      (and-from (leb 1 (byte-at b 1)) (leb (byte-at b 1) 64) (le-leb 1 (byte-at b 1) (f .nodes-low)) (le-leb (byte-at b 1) 64 (f .nodes-high)),
-      (le-leb (byte-at b 2) 4 (f .clocks),
-      (le-leb (byte-at b 3) 15 (f .constant),
-      (lt-ltb (byte-at b 4) (byte-at b 1) (f .start), tt))));
+    counts = (
+      and-from (leb 1 (byte-at b 1)) (leb (byte-at b 1) 64) (le-leb 1 (byte-at b 1) (f .nodes-low)) (le-leb (byte-at b 1) 64 (f .nodes-high)),
+      (
+        le-leb (byte-at b 2) 4 (f .clocks),
+        (
+          le-leb (byte-at b 3) 15 (f .constant),
+          (lt-ltb (byte-at b 4) (byte-at b 1) (f .start), tt),
+        ),
+      ),
+    );
     whole = f .edges-whole;
     least = omega arith;
     most = f .edges-most;

@@ -6,6 +6,8 @@ ghost use Rattle.std.specs.Results.{Cases as ByOk};
 ghost use Rattle.std.specs.Vec.{made};
 ghost use Rattle.std.specs.shelf.Maps.{nth};
 ghost use Rattle.sheet.specs.Limits.{checked};
+ghost use Rattle.sheet.specs.Order.{Told-first};
+ghost use Rattle.property_sheet.specs.Fits.{Property-fits};
 ghost use Rattle.property_sheet.specs.Contents.{always, Content-lawful};
 ghost use Rattle.property_sheet.specs.Sheets.{property-limits, sheet-content, read-property};
 ghost use Rattle.property.specs.Contents.{content-of};
@@ -50,7 +52,8 @@ impl Property {
     /// Reads a property sheet into this property. A sheet that is refused changes nothing, and no
     /// memory is taken.
     pub fn load(&mut self, sheet: &[u8]) -> Result<(), SheetFault>
-        ensures { λ r. ⌜ ByOk r (λ _. read-property (now (sheet .entry)) ≡ Ok (content-of (now (self .exit)))) (λ f. (read-property (now (sheet .entry)) ≡ Err f) × (now (self .exit) ≡ now (self .entry))) ⌝ }
+        ensures read { λ r. ⌜ ByOk r (λ _. read-property (now (sheet .entry)) ≡ Ok (content-of (now (self .exit)))) (λ f. (read-property (now (sheet .entry)) ≡ Err f) × (now (self .exit) ≡ now (self .entry))) ⌝ }
+        ensures limits { λ r. ⌜ ByOk r (λ _. Property-fits (now (sheet .entry))) (λ f. Told-first (property-limits (now (sheet .entry))) f) ⌝ }
     {
         let reader = Reader::new(sheet, SheetKind::Property);
         check_sheet(&reader)?;

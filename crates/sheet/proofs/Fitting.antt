@@ -62,12 +62,19 @@ module _ (n c : ℕ) (cs : List ℕ) (at k : ℕ) where
 
   pub condition-passed : Condition-fits n c cs k → Passed (condition-limits n c cs at k)
   condition-passed f =
-      passed-from (condition-limits n c cs at k)
-      (lt-ltb (byte-at cs (4 * k)) n (f .clock),
-      (second-true (f .second),
-      (le-leb (byte-at cs (4 * k + 2)) 4 (f .relation),
-      (and-from (leZ (lowest c (term-at cs k)) (constant-at cs k)) (leZ (constant-at cs k) (pos c)) (true-leZ (lowest c (term-at cs k)) (constant-at cs k) (f .constant-low)) (true-leZ (constant-at cs k) (pos c) (f .constant-high)),
-      tt))))
+      passed-from (condition-limits n c cs at k) (
+        lt-ltb (byte-at cs (4 * k)) n (f .clock),
+        (
+          second-true (f .second),
+          (
+            le-leb (byte-at cs (4 * k + 2)) 4 (f .relation),
+            (
+              and-from (leZ (lowest c (term-at cs k)) (constant-at cs k)) (leZ (constant-at cs k) (pos c)) (true-leZ (lowest c (term-at cs k)) (constant-at cs k) (f .constant-low)) (true-leZ (constant-at cs k) (pos c) (f .constant-high)),
+              tt,
+            ),
+          ),
+        ),
+      )
 
 -- what a sheet of kind s with records r keeps besides the limits of its records
 pub record Shared (s : SheetKind) (r : RecordKind) (b : List ℕ) : Type 0 where
@@ -121,22 +128,31 @@ module _ (s : SheetKind) (r : RecordKind) (b : List ℕ) where
   pub header-passed : Shared s r b → Passed (header-limits s b)
   header-passed f =
       passed-append (size-limit b ∷ letter-limit s b ∷ []) (counts-limits s b ++ edition-limits b)
-      (passed-from (size-limit b ∷ letter-limit s b ∷ [])
-      (and-from (leb 16 (length b)) (leb (length b) 65535) (le-leb 16 (length b) (f .sheet .size-low)) (le-leb (length b) 65535 (f .sheet .size-high)),
-      (eq-eqb (byte-at b 0) (letter-of s) (f .letter), tt)))
+      (passed-from (size-limit b ∷ letter-limit s b ∷ []) (
+        and-from (leb 16 (length b)) (leb (length b) 65535) (le-leb 16 (length b) (f .sheet .size-low)) (le-leb (length b) 65535 (f .sheet .size-high)),
+        (eq-eqb (byte-at b 0) (letter-of s) (f .letter), tt),
+      ))
       (passed-append (counts-limits s b) (edition-limits b) (passed-from (counts-limits s b) (f .counts))
-      (passed-from (edition-limits b)
-      (eq-eqb (byte-at b 5) 2 (f .sheet .edition),
-      (eq-eqb (byte-at b 6) 0 (f .sheet .reserved-6),
-      (eq-eqb (byte-at b 7) 0 (f .sheet .reserved-7), tt)))))
+      (passed-from (edition-limits b) (
+        eq-eqb (byte-at b 5) 2 (f .sheet .edition),
+        (
+          eq-eqb (byte-at b 6) 0 (f .sheet .reserved-6),
+          (eq-eqb (byte-at b 7) 0 (f .sheet .reserved-7), tt),
+        ),
+      )))
 
   pub directory-passed : Shared s r b → Passed (two-limits r b)
   directory-passed f =
-      passed-from (two-limits r b)
-      (and-from (leb 16 (offset-of b 0)) (leb (offset-of b 0 + extent-of b 0) (length b)) (le-leb 16 (offset-of b 0) (f .sheet .records-start)) (le-leb (offset-of b 0 + extent-of b 0) (length b) (f .sheet .records-end)),
-      (and-from (leb (offset-of b 0 + extent-of b 0) (offset-of b 1)) (leb (offset-of b 1 + extent-of b 1) (length b)) (le-leb (offset-of b 0 + extent-of b 0) (offset-of b 1) (f .sheet .conditions-start)) (le-leb (offset-of b 1 + extent-of b 1) (length b) (f .sheet .conditions-end)),
-      (and-from (eqb (extent-of b 0 % size-of r) 0) (leb (least-of r) (extent-of b 0 / size-of r) && leb (extent-of b 0 / size-of r) (most-of r)) (eq-eqb (extent-of b 0 % size-of r) 0 (f .whole)) (and-from (leb (least-of r) (extent-of b 0 / size-of r)) (leb (extent-of b 0 / size-of r) (most-of r)) (le-leb (least-of r) (extent-of b 0 / size-of r) (f .least)) (le-leb (extent-of b 0 / size-of r) (most-of r) (f .most))),
-      (and-from (eqb (extent-of b 1 % 4) 0) (leb 0 (extent-of b 1 / 4) && leb (extent-of b 1 / 4) 1024) (eq-eqb (extent-of b 1 % 4) 0 (f .sheet .conditions-whole)) (and-from (leb 0 (extent-of b 1 / 4)) (leb (extent-of b 1 / 4) 1024) (le-leb 0 (extent-of b 1 / 4) (omega arith)) (le-leb (extent-of b 1 / 4) 1024 (f .sheet .conditions-most))), tt))))
+      passed-from (two-limits r b) (
+        and-from (leb 16 (offset-of b 0)) (leb (offset-of b 0 + extent-of b 0) (length b)) (le-leb 16 (offset-of b 0) (f .sheet .records-start)) (le-leb (offset-of b 0 + extent-of b 0) (length b) (f .sheet .records-end)),
+        (
+          and-from (leb (offset-of b 0 + extent-of b 0) (offset-of b 1)) (leb (offset-of b 1 + extent-of b 1) (length b)) (le-leb (offset-of b 0 + extent-of b 0) (offset-of b 1) (f .sheet .conditions-start)) (le-leb (offset-of b 1 + extent-of b 1) (length b) (f .sheet .conditions-end)),
+          (
+            and-from (eqb (extent-of b 0 % size-of r) 0) (leb (least-of r) (extent-of b 0 / size-of r) && leb (extent-of b 0 / size-of r) (most-of r)) (eq-eqb (extent-of b 0 % size-of r) 0 (f .whole)) (and-from (leb (least-of r) (extent-of b 0 / size-of r)) (leb (extent-of b 0 / size-of r) (most-of r)) (le-leb (least-of r) (extent-of b 0 / size-of r) (f .least)) (le-leb (extent-of b 0 / size-of r) (most-of r) (f .most))),
+            (and-from (eqb (extent-of b 1 % 4) 0) (leb 0 (extent-of b 1 / 4) && leb (extent-of b 1 / 4) 1024) (eq-eqb (extent-of b 1 % 4) 0 (f .sheet .conditions-whole)) (and-from (leb 0 (extent-of b 1 / 4)) (leb (extent-of b 1 / 4) 1024) (le-leb 0 (extent-of b 1 / 4) (omega arith)) (le-leb (extent-of b 1 / 4) 1024 (f .sheet .conditions-most))), tt),
+          ),
+        ),
+      )
 
   pub conditions-passed : Shared s r b → Passed (conditions-limits b)
   conditions-passed f =

@@ -35,7 +35,11 @@ fn relation(number: u8) -> Relation
 fn term(first: u8, second: u8) -> Term
     ensures { λ r. ⌜ r ≡ term-of first second ⌝ }
 {
-    if second == 255 { Term::Clock(first) } else { Term::Difference(first, second) }
+    if second == 255 {
+        Term::Clock(first)
+    } else {
+        Term::Difference(first, second)
+    }
 }
 
 /// Record `index` of a section of conditions; none if the section ends before it does.
@@ -83,16 +87,32 @@ fn check_condition(section: &[u8], rules: ConditionRules, k: usize) -> Result<()
     let first = section[4 * k];
     let second = section[4 * k + 1];
     if first >= rules.clocks {
-        return Err(RecordFault { kind: RecordKind::Conditions, place });
+        return Err(RecordFault {
+            kind: RecordKind::Conditions,
+            place,
+        });
     }
     if !second_fits(rules.clocks, first, second) {
-        return Err(RecordFault { kind: RecordKind::Conditions, place: place + 1 });
+        return Err(RecordFault {
+            kind: RecordKind::Conditions,
+            place: place + 1,
+        });
     }
     if section[4 * k + 2] > 4 {
-        return Err(RecordFault { kind: RecordKind::Conditions, place: place + 2 });
+        return Err(RecordFault {
+            kind: RecordKind::Conditions,
+            place: place + 2,
+        });
     }
-    if !constant_fits(rules.constant, term(first, second), section[4 * k + 3].cast_signed()) {
-        return Err(RecordFault { kind: RecordKind::Conditions, place: place + 3 });
+    if !constant_fits(
+        rules.constant,
+        term(first, second),
+        section[4 * k + 3].cast_signed(),
+    ) {
+        return Err(RecordFault {
+            kind: RecordKind::Conditions,
+            place: place + 3,
+        });
     }
     Ok(())
 }

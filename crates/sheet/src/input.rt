@@ -18,6 +18,9 @@ impl<'a> Input<'a> {
         ensures property { λ r. ⌜ now (r .property) ≡ property-part (now (bytes .entry)) ⌝ }
     {
         let len = word_at(bytes, 0);
-        Input { device: part(bytes, 2, len), property: part(bytes, 2 + len, bytes.len()) }
+        Input {
+            device: part(bytes, 2, len),
+            property: part(bytes, 2 + len, bytes.len()),
+        }
     }
 }

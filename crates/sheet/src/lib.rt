@@ -1,12 +1,13 @@
 //! Sheets of bytes: their header, their directory of sections and their condition records, the
 //! faults of the three layers, and a reader that hands out the sections.
+mod conditions;
 mod faults;
 mod input;
 mod kinds;
 mod parts;
-mod conditions;
 mod reader;
 
+pub use conditions::read_condition;
 pub use faults::DirectoryFault;
 pub use faults::DirectoryFromRecord;
 pub use faults::Layer;
@@ -19,4 +20,3 @@ pub use kinds::RecordKind;
 pub use kinds::SheetKind;
 pub use reader::Reader;
 pub use reader::Sections;
-pub use conditions::read_condition;

@@ -88,7 +88,10 @@ impl<'a> Reader<'a> {
         ensures conditions { λ r. ⌜ now (r .conditions) ≡ section-of (now (now (self .entry) .sheet)) 1 ⌝ }
         ensures short { λ r. ⌜ length (now (r .records)) ≤ 65535 ⌝ }
     {
-        Sections { records: self.section(0), conditions: self.section(1) }
+        Sections {
+            records: self.section(0),
+            conditions: self.section(1),
+        }
     }
 
     // Nodes, clocks, largest constant and start of a device.
@@ -178,7 +181,9 @@ impl<'a> Reader<'a> {
             let from = self.offset(index);
             let to = from + self.extent(index);
             if from < floor || to > self.sheet.len() {
-                return Err(DirectoryFault::Bounds { place: 8 + 4 * index });
+                return Err(DirectoryFault::Bounds {
+                    place: 8 + 4 * index,
+                });
             }
             floor = to;
         }
@@ -193,7 +198,9 @@ impl<'a> Reader<'a> {
         let size = kind.size();
         let count = extent / size;
         if extent % size != 0 || count < kind.least() || count > kind.most() {
-            return Err(DirectoryFault::Count { place: 10 + 4 * index });
+            return Err(DirectoryFault::Count {
+                place: 10 + 4 * index,
+            });
         }
         Ok(())
     }
@@ -222,7 +229,11 @@ impl<'a> Reader<'a> {
     pub fn check_conditions(&self) -> Result<(), RecordFault>
         ensures { λ r. ⌜ r ≡ checked (conditions-limits (now (now (self .entry) .sheet))) ⌝ }
     {
-        let rules = ConditionRules { clocks: self.byte(2), constant: self.byte(3), at: self.offset(1) };
+        let rules = ConditionRules {
+            clocks: self.byte(2),
+            constant: self.byte(3),
+            at: self.offset(1),
+        };
         check_conditions(self.section(1), rules)
     }
 }

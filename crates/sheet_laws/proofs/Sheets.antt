@@ -1,15 +1,19 @@
 -- The limits of a sheet rise: 1 to 3 in its header, 4 and 5 in its directory, 6 in its conditions, and then 7 or 8.
+use mathlib.Core.Path.{_≡_, sym, ap, _∙_}
 use mathlib.Core.List.{List, _++_}
 use Prim.Native.Nat.{ℕ, _+_, _*_, _/_, _≤_}
 use native.Mathlib.Omega.{arith}
 use lib.ListN.{length}
+use Rattle.std.specs.declared.result.Result.the-variants.{Err}
 use Rattle.sheet.specs.declared.kinds.SheetKind.{SheetKind}
 use Rattle.sheet.specs.declared.kinds.SheetKind.the-variants.{Device, Property}
 use Rattle.sheet.specs.declared.faults.RecordFault.{RecordFault}
 use Rattle.sheet.specs.declared.faults.DirectoryFault.{DirectoryFault}
 use Rattle.sheet.specs.declared.faults.DirectoryFault.the-variants.{InRecord}
+use Rattle.sheet.specs.declared.faults.SheetFault.{SheetFault}
 use Rattle.sheet.specs.declared.faults.SheetFault.the-variants.{InDirectory}
-use Rattle.sheet.specs.Limits.{Limit, held-in}
+use Rattle.sheet.specs.Limits.{Limit, held-in, checked, read-if}
+use Rattle.sheet.specs.Order.{Told-first}
 use Rattle.sheet.specs.Layout.{byte-at, offset-of, section-of, header-limits, directory-limits}
 use Rattle.sheet.specs.Conditions.{condition-limits, conditions-limits}
 use Rattle.device_sheet.specs.Edges.{edge-limits}
@@ -94,3 +98,12 @@ device-refused-first b f =
 pub property-refused-first : Property-refused-first
 property-refused-first b f =
     refused-first (sheet-content b) (at 1 0) (at 9 0) (property-limits b) f (sheet-rises Property b (lines-limits b) 8 (omega arith) (lines-rise b))
+
+-- the same from a check that told a fault
+pub device-told : (b c : List ℕ) (f : SheetFault) → b ≡ c → Err f ≡ checked (device-limits b) → Told-first (device-limits c) f
+device-told b c f same e =
+    device-refused-first c f .0 (ap (λ r. read-if r (sheet-meaning c)) (sym (e ∙ ap (λ x. checked (device-limits x)) same)))
+
+pub property-told : (b c : List ℕ) (f : SheetFault) → b ≡ c → Err f ≡ checked (property-limits b) → Told-first (property-limits c) f
+property-told b c f same e =
+    property-refused-first c f .0 (ap (λ r. read-if r (sheet-content c)) (sym (e ∙ ap (λ x. checked (property-limits x)) same)))

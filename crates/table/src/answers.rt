@@ -36,7 +36,9 @@ pub impl<'a> Device for Table<'a> as TableDevice {
             source: self.edges[8 * e] as u16,
             target: self.edges[8 * e + 1] as u16,
             action: self.edges[8 * e + 2],
-            resets: ClockSet { bits: self.edges[8 * e + 3] },
+            resets: ClockSet {
+                bits: self.edges[8 * e + 3],
+            },
             conditions: self.edges[8 * e + 6],
         })
     }
@@ -46,6 +48,9 @@ pub impl<'a> Device for Table<'a> as TableDevice {
         if e >= self.edges.len() / 8 || place >= self.edges[8 * e + 6] as u32 {
             return None;
         }
-        read_condition(self.conditions, first_condition(self.edges, e) + place as usize)
+        read_condition(
+            self.conditions,
+            first_condition(self.edges, e) + place as usize,
+        )
     }
 }

@@ -41,28 +41,49 @@ fn check_edge(edges: &[u8], rules: EdgeRules, e: usize) -> Result<(), RecordFaul
 {
     let place = rules.at + 8 * e;
     if edges[8 * e] >= rules.nodes {
-        return Err(RecordFault { kind: RecordKind::Edges, place });
+        return Err(RecordFault {
+            kind: RecordKind::Edges,
+            place,
+        });
     }
     if edges[8 * e + 1] >= rules.nodes {
-        return Err(RecordFault { kind: RecordKind::Edges, place: place + 1 });
+        return Err(RecordFault {
+            kind: RecordKind::Edges,
+            place: place + 1,
+        });
     }
     let action = edges[8 * e + 2];
     if action < 1 || action > 16 {
-        return Err(RecordFault { kind: RecordKind::Edges, place: place + 2 });
+        return Err(RecordFault {
+            kind: RecordKind::Edges,
+            place: place + 2,
+        });
     }
     if !resets_fit(edges[8 * e + 3], rules.clocks) {
-        return Err(RecordFault { kind: RecordKind::Edges, place: place + 3 });
+        return Err(RecordFault {
+            kind: RecordKind::Edges,
+            place: place + 3,
+        });
     }
     let first = first_condition(edges, e);
     if first > rules.conditions {
-        return Err(RecordFault { kind: RecordKind::Edges, place: place + 4 });
+        return Err(RecordFault {
+            kind: RecordKind::Edges,
+            place: place + 4,
+        });
     }
     let count = edges[8 * e + 6] as usize;
     if count > 8 || first + count > rules.conditions {
-        return Err(RecordFault { kind: RecordKind::Edges, place: place + 6 });
+        return Err(RecordFault {
+            kind: RecordKind::Edges,
+            place: place + 6,
+        });
     }
     if edges[8 * e + 7] != 0 {
-        return Err(RecordFault { kind: RecordKind::Edges, place: place + 7 });
+        return Err(RecordFault {
+            kind: RecordKind::Edges,
+            place: place + 7,
+        });
     }
     Ok(())
 }

@@ -5,6 +5,8 @@ ghost use Rattle.std.specs.Results.{Cases};
 ghost use Rattle.std.specs.declared.result.Result.the-variants.{Ok, Err};
 ghost use Rattle.sheet.specs.Limits.{checked};
 ghost use Rattle.sheet.specs.declared.kinds.SheetKind.the-variants.{Device};
+ghost use Rattle.sheet.specs.Order.{Told-first};
+ghost use Rattle.device_sheet.specs.Fits.{Device-fits};
 ghost use Rattle.device_sheet.specs.Sheets.{edges-limits, sections-limits, device-limits, read-device};
 ghost use Rattle.table.specs.Meanings.{meaning-of};
 use super::edges::EdgeRules;
@@ -58,13 +60,21 @@ impl<'a> Table<'a> {
     pub fn new() -> Table<'a>
         ensures { λ r. ⌜ meaning-of r ≡ idle 8 ⌝ }
     {
-        Table { nodes: 1, start: 0, clocks: 0, constant: 0, edges: &[], conditions: &[] }
+        Table {
+            nodes: 1,
+            start: 0,
+            clocks: 0,
+            constant: 0,
+            edges: &[],
+            conditions: &[],
+        }
     }
 
     /// Replaces the table by what the sheet means, or refuses the sheet with the first limit that
     /// it breaks and leaves the table as it was.
     pub fn load(&mut self, sheet: &'a [u8]) -> Result<(), SheetFault>
-        ensures { λ r. ⌜ Cases r (λ _. read-device (now (sheet .entry)) ≡ Ok (meaning-of (now (self .exit)))) (λ f. (read-device (now (sheet .entry)) ≡ Err f) × (now (self .exit) ≡ now (self .entry))) ⌝ }
+        ensures read { λ r. ⌜ Cases r (λ _. read-device (now (sheet .entry)) ≡ Ok (meaning-of (now (self .exit)))) (λ f. (read-device (now (sheet .entry)) ≡ Err f) × (now (self .exit) ≡ now (self .entry))) ⌝ }
+        ensures limits { λ r. ⌜ Cases r (λ _. Device-fits (now (sheet .entry))) (λ f. Told-first (device-limits (now (sheet .entry))) f) ⌝ }
     {
         let reader = Reader::new(sheet, SheetKind::Device);
         check_sheet(&reader)?;

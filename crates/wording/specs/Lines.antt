@@ -30,9 +30,11 @@ abbrev pub numbered-text : ℕ → Option Line → List ℕ
 numbered-text p None = []
 numbered-text p (Some l) = codes "line " ++ (decimal p ++ (codes ": " ++ (line-text l ++ codes "\n")))
 
-abbrev pub counts-text : Content → List ℕ
-counts-text s =
-    codes "property: clocks " ++ (decimal (s .clocks) ++ (codes ", largest constant " ++ (decimal (s .constant) ++ (codes ", lines " ++ (decimal (length (s .lines)) ++ codes "\n")))))
+-- clocks, largest constant and lines
+abbrev pub counts-text : ℕ → ℕ → ℕ → List ℕ
+counts-text c k n =
+    codes "property: clocks " ++ (decimal c ++ (codes ", largest constant " ++ (decimal k ++ (codes ", lines " ++ (decimal n ++ codes "\n")))))
 
 abbrev pub property-text : Content → List ℕ
-property-text s = counts-text s ++ texts (λ p. numbered-text p (nth (s .lines) p)) 0 (length (s .lines))
+property-text s =
+    counts-text (s .clocks) (s .constant) (length (s .lines)) ++ texts (λ p. numbered-text p (nth (s .lines) p)) 0 (length (s .lines))

@@ -8,6 +8,7 @@ ghost use Rattle.device.specs.Meaning.{condition-of};
 ghost use Rattle.wording.specs.Texts.{texts};
 ghost use Rattle.wording.specs.Devices.{numbers-text, clause-text, reset-clause, reset-text, ends-text, edge-line, edge-text, device-text};
 use super::InWords;
+use super::append::append;
 use super::terms::ConditionText;
 use device::ClockSet;
 use device::Condition;
@@ -16,13 +17,6 @@ use device::Edge;
 use device::Number;
 use std::alloc::AllocError;
 use std::alloc::Global;
-
-// Adds a text at the end of another.
-fn append(out: &mut String, text: String) -> Result<(), AllocError>
-    ensures { λ r. ⌜ made r (λ _. string-bytes (now (out .exit)) ≡ string-bytes (now (out .entry)) ++ string-bytes text) ⌝ }
-{
-    out.push_str(text.as_str())
-}
 
 fn clause(heap: Global, condition: Option<Condition>) -> Result<String, AllocError>
     ensures { λ r. ⌜ made r (λ t. string-bytes t ≡ clause-text condition) ⌝ }
@@ -39,10 +33,20 @@ fn clause(heap: Global, condition: Option<Condition>) -> Result<String, AllocErr
 fn reset_clause(heap: Global, resets: bool, clock: u8) -> Result<String, AllocError>
     ensures { λ r. ⌜ made r (λ t. string-bytes t ≡ reset-clause resets clock) ⌝ }
 {
-    if resets { format!(heap, ", reset clock {clock}") } else { Ok(String::new(heap)) }
+    if resets {
+        format!(heap, ", reset clock {clock}")
+    } else {
+        Ok(String::new(heap))
+    }
 }
 
-fn add_guard<D: Device>(heap: Global, out: &mut String, device: &D, number: u32, count: u8) -> Result<(), AllocError>
+fn add_guard<D: Device>(
+    heap: Global,
+    out: &mut String,
+    device: &D,
+    number: u32,
+    count: u8,
+) -> Result<(), AllocError>
     ensures { λ r. ⌜ made r (λ _. string-bytes (now (out .exit)) ≡ string-bytes (now (out .entry)) ++ texts (λ i. clause-text (condition-of (D·Device .meaning (now (device .entry))) number i)) 0 count) ⌝ }
 {
     for place in 0..count {
@@ -66,10 +70,19 @@ fn ends(heap: Global, number: u32, edge: Edge) -> Result<String, AllocError>
     let source = edge.source;
     let target = edge.target;
     let action = edge.action;
-    format!(heap, "edge {number}: from node {source} to node {target}, action {action}")
+    format!(
+        heap,
+        "edge {number}: from node {source} to node {target}, action {action}"
+    )
 }
 
-fn add_edge<D: Device>(heap: Global, out: &mut String, device: &D, number: u32, edge: Option<Edge>) -> Result<(), AllocError>
+fn add_edge<D: Device>(
+    heap: Global,
+    out: &mut String,
+    device: &D,
+    number: u32,
+    edge: Option<Edge>,
+) -> Result<(), AllocError>
     ensures { λ r. ⌜ made r (λ _. string-bytes (now (out .exit)) ≡ string-bytes (now (out .entry)) ++ edge-line (D·Device .meaning (now (device .entry))) number edge) ⌝ }
 {
     let Some(edge) = edge else {
@@ -82,7 +95,12 @@ fn add_edge<D: Device>(heap: Global, out: &mut String, device: &D, number: u32, 
     Ok(())
 }
 
-fn add_edges<D: Device>(heap: Global, out: &mut String, device: &D, count: u32) -> Result<(), AllocError>
+fn add_edges<D: Device>(
+    heap: Global,
+    out: &mut String,
+    device: &D,
+    count: u32,
+) -> Result<(), AllocError>
     ensures { λ r. ⌜ made r (λ _. string-bytes (now (out .exit)) ≡ string-bytes (now (out .entry)) ++ texts (edge-text (D·Device .meaning (now (device .entry)))) 0 count) ⌝ }
 {
     for number in 0..count {
@@ -91,10 +109,20 @@ fn add_edges<D: Device>(heap: Global, out: &mut String, device: &D, count: u32) 
     Ok(())
 }
 
-fn numbers(heap: Global, nodes: u32, start: u32, clocks: u32, constant: u32, edges: u32) -> Result<String, AllocError>
+fn numbers(
+    heap: Global,
+    nodes: u32,
+    start: u32,
+    clocks: u32,
+    constant: u32,
+    edges: u32,
+) -> Result<String, AllocError>
     ensures { λ r. ⌜ made r (λ t. string-bytes t ≡ numbers-text nodes start clocks constant edges) ⌝ }
 {
-    format!(heap, "device: nodes {nodes}, start {start}, clocks {clocks}, largest constant {constant}, edges {edges}\n")
+    format!(
+        heap,
+        "device: nodes {nodes}, start {start}, clocks {clocks}, largest constant {constant}, edges {edges}\n"
+    )
 }
 
 /// A device in words: its numbers, then each edge that it tells.

@@ -1,14 +1,16 @@
 //! Devices, properties and refusals in plain words.
-mod terms;
-mod lines;
-mod refusals;
+mod append;
 mod devices;
+mod lines;
+mod properties;
+mod refusals;
+mod terms;
 
 pub use devices::device_text;
+pub use properties::property_text;
 pub use refusals::Refused;
 pub use refusals::RefusedText;
 pub use refusals::refusal_text;
-pub use terms::ConditionText;
 
 /// A value that is shown in words.
 #[derive(Clone, Copy)]

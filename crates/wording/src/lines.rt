@@ -17,8 +17,14 @@ pub impl fmt::Display for InWords<Line> as LineText {
             Line::Either(p, q) => write!(f, "line {p} or line {q}"),
             Line::SomeDelay(p) => write!(f, "after some delay line {p}"),
             Line::EveryDelay(p) => write!(f, "after every delay line {p}"),
-            Line::SomeAction { action, then } => write!(f, "after some action {action} line {then}"),
-            Line::EveryAction { action, then } => write!(f, "after every action {action} line {then}"),
+            Line::SomeAction { action, then } => write!(
+                f,
+                "after some action {action} line {then}"
+            ),
+            Line::EveryAction { action, then } => write!(
+                f,
+                "after every action {action} line {then}"
+            ),
             Line::Reset { clock, then } => write!(f, "with clock {clock} reset line {then}"),
             Line::Holds(condition) => {
                 let condition = InWords(condition);

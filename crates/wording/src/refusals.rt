@@ -4,11 +4,11 @@ ghost use mathlib.Core.Path.{_≡_};
 ghost use Rattle.std.specs.Of.String.{string-bytes};
 ghost use Rattle.std.specs.Vec.{made};
 ghost use Rattle.wording.specs.Refusals.{kind-text, layer-text, refused-text, cause-text, refusal-text};
+use super::InWords;
 use sheet::Layer;
 use sheet::Refusal;
 use sheet::SheetFault;
 use sheet::SheetKind;
-use super::InWords;
 use std::alloc::AllocError;
 use std::alloc::Global;
 use std::fmt;
@@ -24,10 +24,12 @@ pub impl fmt::Display for InWords<SheetKind> as KindText {
     ghost shown = { λ k. Some (kind-text (k .0)) };
 
     fn fmt<W: fmt::Write>(&self, f: &mut fmt::Formatter<W>) -> fmt::Result {
-        f.write_str(match self.0 {
-            SheetKind::Device => "device",
-            SheetKind::Property => "property",
-        })
+        f.write_str(
+            match self.0 {
+                SheetKind::Device => "device",
+                SheetKind::Property => "property",
+            },
+        )
     }
 }
 
@@ -35,11 +37,13 @@ pub impl fmt::Display for InWords<Layer> as LayerText {
     ghost shown = { λ l. Some (layer-text (l .0)) };
 
     fn fmt<W: fmt::Write>(&self, f: &mut fmt::Formatter<W>) -> fmt::Result {
-        f.write_str(match self.0 {
-            Layer::Sheet => "sheet",
-            Layer::Directory => "directory",
-            Layer::Record => "record",
-        })
+        f.write_str(
+            match self.0 {
+                Layer::Sheet => "sheet",
+                Layer::Directory => "directory",
+                Layer::Record => "record",
+            },
+        )
     }
 }
 

@@ -1,23 +1,25 @@
 //! Conditions in words.
 ghost use Rattle.std.specs.declared.option.Option.the-variants.{Some};
 ghost use Rattle.wording.specs.Terms.{relation-text, term-text, condition-text};
+use super::InWords;
 use device::Condition;
 use device::Relation;
 use device::Term;
-use super::InWords;
 use std::fmt;
 
 pub impl fmt::Display for InWords<Relation> as RelationText {
     ghost shown = { λ r. Some (relation-text (r .0)) };
 
     fn fmt<W: fmt::Write>(&self, f: &mut fmt::Formatter<W>) -> fmt::Result {
-        f.write_str(match self.0 {
-            Relation::Less => "<",
-            Relation::AtMost => "<=",
-            Relation::Equal => "=",
-            Relation::AtLeast => ">=",
-            Relation::Greater => ">",
-        })
+        f.write_str(
+            match self.0 {
+                Relation::Less => "<",
+                Relation::AtMost => "<=",
+                Relation::Equal => "=",
+                Relation::AtLeast => ">=",
+                Relation::Greater => ">",
+            },
+        )
     }
 }
 

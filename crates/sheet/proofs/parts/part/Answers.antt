@@ -7,7 +7,7 @@ use Rattle.sheet.proofs.parts.part.Needs as need
 pub returns : need.returns
 returns c = record {
   value =
-    part-is (c .args .bytes .now) (c .args .from) (c .args .len) (c .min-from .result)
-    (c .min-from .result + c .min-len .result - c .min-from .result) (c .min-from .ensures) (omega arith);
+      part-is (c .args .bytes .now) (c .args .from) (c .args .len) (c .min-from .result)
+      (c .min-from .result + c .min-len .result - c .min-from .result) (c .min-from .ensures) (omega arith);
   bound = simp length-take (omega arith);
 }

@@ -12,5 +12,5 @@ returns c =
     record {
       device = c .part .ensures .value ∙ ap (λ k. take k (drop 2 b)) n;
       property =
-        c .part-2 .ensures .value ∙ (take-all (length b) (drop (2 + c .word-at-len .result) b) (simp length-drop (omega arith)) ∙ ap (λ k. drop (2 + k) b) n);
+          c .part-2 .ensures .value ∙ (take-all (length b) (drop (2 + c .word-at-len .result) b) (simp length-drop (omega arith)) ∙ ap (λ k. drop (2 + k) b) n);
     }
