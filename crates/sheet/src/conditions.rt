@@ -4,7 +4,7 @@ ghost use mathlib.Core.List.{List};
 ghost use Prim.Native.Nat.{ℕ, _+_, _*_, _/_, _<_, _≤_};
 ghost use lib.ListN.{length};
 ghost use Rattle.device.specs.Terms.{relation-of};
-ghost use Rattle.sheet.specs.Conditions.{condition-at, condition-limits, condition-told, constant-fits, second-fits, term-of};
+ghost use Rattle.sheet.specs.Conditions.{condition-at, condition-fault, condition-limits, condition-told, constant-fits, second-fits, term-of};
 ghost use Rattle.sheet.specs.Limits.{checked, of-each};
 use super::faults::RecordFault;
 use super::kinds::RecordKind;
@@ -77,6 +77,16 @@ fn constant_fits(largest: u8, term: Term, constant: i8) -> bool
     least <= constant && constant <= largest
 }
 
+// The fault of a condition, told at this byte.
+fn condition_fault(place: usize) -> RecordFault
+    ensures { λ r. ⌜ r ≡ condition-fault place ⌝ }
+{
+    RecordFault {
+        kind: RecordKind::Conditions,
+        place,
+    }
+}
+
 fn check_condition(section: &[u8], rules: ConditionRules, k: usize) -> Result<(), RecordFault>
     requires within { ⌜ 4 * k + 4 ≤ length (now section) ⌝ }
     requires short { ⌜ length (now section) ≤ 65535 ⌝ }
@@ -87,32 +97,20 @@ fn check_condition(section: &[u8], rules: ConditionRules, k: usize) -> Result<()
     let first = section[4 * k];
     let second = section[4 * k + 1];
     if first >= rules.clocks {
-        return Err(RecordFault {
-            kind: RecordKind::Conditions,
-            place,
-        });
+        return Err(condition_fault(place));
     }
     if !second_fits(rules.clocks, first, second) {
-        return Err(RecordFault {
-            kind: RecordKind::Conditions,
-            place: place + 1,
-        });
+        return Err(condition_fault(place + 1));
     }
     if section[4 * k + 2] > 4 {
-        return Err(RecordFault {
-            kind: RecordKind::Conditions,
-            place: place + 2,
-        });
+        return Err(condition_fault(place + 2));
     }
     if !constant_fits(
         rules.constant,
         term(first, second),
         section[4 * k + 3].cast_signed(),
     ) {
-        return Err(RecordFault {
-            kind: RecordKind::Conditions,
-            place: place + 3,
-        });
+        return Err(condition_fault(place + 3));
     }
     Ok(())
 }

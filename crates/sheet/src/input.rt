@@ -2,6 +2,7 @@
 ghost use mathlib.Core.Path.{_≡_};
 ghost use Rattle.sheet.specs.Inputs.{device-part, property-part};
 use super::parts::part;
+use super::parts::rest;
 use super::parts::word_at;
 
 /// The two sheets of an input, each what came of it, perhaps nothing.
@@ -20,7 +21,7 @@ impl<'a> Input<'a> {
         let len = word_at(bytes, 0);
         Input {
             device: part(bytes, 2, len),
-            property: part(bytes, 2 + len, bytes.len()),
+            property: rest(bytes, 2 + len),
         }
     }
 }

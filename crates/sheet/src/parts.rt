@@ -29,3 +29,10 @@ pub(crate) fn part(bytes: &[u8], from: usize, len: usize) -> &[u8]
     let len = len.min(bytes.len() - from);
     &bytes[from..from + len]
 }
+
+/// What follows the first `from` bytes.
+pub(crate) fn rest(bytes: &[u8], from: usize) -> &[u8]
+    ensures { λ r. ⌜ now r ≡ drop from (now (bytes .entry)) ⌝ }
+{
+    part(bytes, from, bytes.len())
+}

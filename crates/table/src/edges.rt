@@ -4,7 +4,7 @@ ghost use Prim.Native.Nat.{ℕ, _+_, _*_, _/_, _^_, _<_, _≤_};
 ghost use lib.Dec.{ltb};
 ghost use lib.ListN.{length};
 ghost use Rattle.sheet.specs.Limits.{checked, of-each};
-ghost use Rattle.device_sheet.specs.Edges.{edge-limits, first-at};
+ghost use Rattle.device_sheet.specs.Edges.{edge-fault, edge-limits, first-at};
 use sheet::RecordFault;
 use sheet::RecordKind;
 
@@ -33,6 +33,16 @@ fn resets_fit(resets: u8, clocks: u8) -> bool
     clocks >= 8 || resets < 1 << clocks
 }
 
+// The fault of an edge, told at this byte.
+fn edge_fault(place: usize) -> RecordFault
+    ensures { λ r. ⌜ r ≡ edge-fault place ⌝ }
+{
+    RecordFault {
+        kind: RecordKind::Edges,
+        place,
+    }
+}
+
 fn check_edge(edges: &[u8], rules: EdgeRules, e: usize) -> Result<(), RecordFault>
     requires within { ⌜ 8 * e + 8 ≤ length (now edges) ⌝ }
     requires short { ⌜ length (now edges) ≤ 65535 ⌝ }
@@ -41,49 +51,28 @@ fn check_edge(edges: &[u8], rules: EdgeRules, e: usize) -> Result<(), RecordFaul
 {
     let place = rules.at + 8 * e;
     if edges[8 * e] >= rules.nodes {
-        return Err(RecordFault {
-            kind: RecordKind::Edges,
-            place,
-        });
+        return Err(edge_fault(place));
     }
     if edges[8 * e + 1] >= rules.nodes {
-        return Err(RecordFault {
-            kind: RecordKind::Edges,
-            place: place + 1,
-        });
+        return Err(edge_fault(place + 1));
     }
     let action = edges[8 * e + 2];
     if action < 1 || action > 16 {
-        return Err(RecordFault {
-            kind: RecordKind::Edges,
-            place: place + 2,
-        });
+        return Err(edge_fault(place + 2));
     }
     if !resets_fit(edges[8 * e + 3], rules.clocks) {
-        return Err(RecordFault {
-            kind: RecordKind::Edges,
-            place: place + 3,
-        });
+        return Err(edge_fault(place + 3));
     }
     let first = first_condition(edges, e);
     if first > rules.conditions {
-        return Err(RecordFault {
-            kind: RecordKind::Edges,
-            place: place + 4,
-        });
+        return Err(edge_fault(place + 4));
     }
     let count = edges[8 * e + 6] as usize;
     if count > 8 || first + count > rules.conditions {
-        return Err(RecordFault {
-            kind: RecordKind::Edges,
-            place: place + 6,
-        });
+        return Err(edge_fault(place + 6));
     }
     if edges[8 * e + 7] != 0 {
-        return Err(RecordFault {
-            kind: RecordKind::Edges,
-            place: place + 7,
-        });
+        return Err(edge_fault(place + 7));
     }
     Ok(())
 }
