@@ -8,7 +8,7 @@ use Rattle.table.specs.Meanings.{meaning-of}
 use Rattle.property.specs.Contents.{content-of}
 use Rattle.wording.specs.Devices.{device-text}
 use Rattle.wording.specs.Lines.{property-text}
-use Rattle.description.specs.Descriptions.{closing-text, whole-text}
+use Rattle.description.specs.Descriptions.{guard-lengths, closing-text, whole-text}
 use Rattle.description.proofs.whole.Needs as need
 
 three : (a b c d e f : List ℕ) → a ≡ d → b ≡ e → c ≡ f → a ++ (b ++ c) ≡ d ++ (e ++ f)
@@ -22,7 +22,11 @@ returns c =
     let x = string-bytes (c .in-Continue-device-part .device-part) in
     let y = string-bytes (c .in-Continue-property-part .property-part) in
     let z = string-bytes (c .in-Continue-closing .closing) in
-    let last : z ≡ closing-text (m .edges) (length (s .lines)) = c .in-Continue-closing .ensures tt ∙ (ap (λ e. closing-text e (c .line-count .result)) (c .number .ensures) ∙ ap (closing-text (m .edges)) (c .line-count .ensures)) in
+    let e = c .number-edges .result in
+    let n = c .line-count .result in
+    let total = guard-lengths m 0 (m .edges) in
+    let count : c .guard-lengths-conditions .result ≡ total = c .guard-lengths-conditions .ensures ∙ ap (guard-lengths m 0) (c .number-edges .ensures) in
+    let last : z ≡ closing-text (m .edges) total (length (s .lines)) = c .in-Continue-closing .ensures tt ∙ (ap (λ k. closing-text e k n) count ∙ (ap (λ k. closing-text k total n) (c .number-edges .ensures) ∙ ap (closing-text (m .edges) total) (c .line-count .ensures))) in
     made-weaker (c .format .result) (λ t. string-bytes t ≡ x ++ (y ++ z)) (λ t. string-bytes t ≡ whole-text m s)
-    (λ t e. e ∙ three x y z (device-text m) (property-text s) (closing-text (m .edges) (length (s .lines))) (c .in-Continue-device-part .ensures tt) (c .in-Continue-property-part .ensures tt) last)
+    (λ t e. e ∙ three x y z (device-text m) (property-text s) (closing-text (m .edges) total (length (s .lines))) (c .in-Continue-device-part .ensures tt) (c .in-Continue-property-part .ensures tt) last)
     (c .format .ensures .made)
