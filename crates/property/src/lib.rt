@@ -1,8 +1,9 @@
 //! A property in memory: its lines, its clocks and its largest constant.
+mod answers;
 mod checks;
 mod held;
 mod lines;
-mod methods;
+mod load;
 
 pub use held::Property;
 pub use property_sheet::Line;

@@ -1,14 +1,12 @@
-//! What a property can do: be made, be loaded from a sheet, and tell what it holds.
+//! Making a property, and reading a sheet into it.
 ghost use mathlib.Core.Path.{_≡_};
-ghost use lib.ListN.{length};
 ghost use Rattle.std.specs.declared.result.Result.the-variants.{Ok, Err};
 ghost use Rattle.std.specs.Results.{Cases as ByOk};
 ghost use Rattle.std.specs.Vec.{made};
-ghost use Rattle.std.specs.shelf.Maps.{nth};
 ghost use Rattle.sheet.specs.Limits.{checked};
 ghost use Rattle.sheet.specs.Order.{Told-first};
 ghost use Rattle.property_sheet.specs.Fits.{Property-fits};
-ghost use Rattle.property_sheet.specs.Contents.{always, Content-lawful};
+ghost use Rattle.property_sheet.specs.Contents.{always};
 ghost use Rattle.property_sheet.specs.Sheets.{property-limits, sheet-content, read-property};
 ghost use Rattle.property.specs.Contents.{content-of};
 use super::checks::check_sheet;
@@ -60,37 +58,4 @@ impl Property {
         self.fill(&reader);
         Ok(())
     }
-
-    /// The line with this number; none past the last.
-    pub fn line(&self, number: u8) -> Option<Line>
-        ensures { λ r. ⌜ r ≡ nth (content-of (now (self .entry)) .lines) number ⌝ }
-    {
-        self.lines.get(usize::from(number)).copied()
-    }
-
-    /// How many lines there are.
-    pub fn line_count(&self) -> u8
-        ensures { λ r. ⌜ r ≡ length (content-of (now (self .entry)) .lines) ⌝ }
-    {
-        self.lines.len() as u8
-    }
-
-    /// How many clocks the property has.
-    pub fn clocks(&self) -> u8
-        ensures { λ r. ⌜ r ≡ content-of (now (self .entry)) .clocks ⌝ }
-    {
-        self.clocks
-    }
-
-    /// The largest constant of its conditions.
-    pub fn largest_constant(&self) -> u8
-        ensures { λ r. ⌜ r ≡ content-of (now (self .entry)) .constant ⌝ }
-    {
-        self.constant
-    }
-
-    /// Every property keeps the limits of a property, whatever it was loaded from.
-    pub fn keeps_limits(&self)
-        ensures { λ _. ⌜ Content-lawful (content-of (now (self .entry))) ⌝ }
-    {}
 }
