@@ -7,12 +7,19 @@ ghost use Rattle.property.specs.Contents.{content-of};
 use super::held::Property;
 use property_sheet::Line;
 
+// The line at an index of a list of lines.
+fn line_at(lines: &[Line], index: usize) -> Option<Line>
+    ensures { λ r. ⌜ r ≡ nth (now (lines .entry)) index ⌝ }
+{
+    lines.get(index).copied()
+}
+
 impl Property {
     /// The line with this number; none past the last.
     pub fn line(&self, number: u8) -> Option<Line>
         ensures { λ r. ⌜ r ≡ nth (content-of (now (self .entry)) .lines) number ⌝ }
     {
-        self.lines.get(usize::from(number)).copied()
+        line_at(self.lines.as_slice(), usize::from(number))
     }
 
     /// How many lines there are.

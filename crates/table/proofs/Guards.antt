@@ -10,12 +10,12 @@ use Rattle.std.proofs.shelf.Tests.{lt-ltb, le-ltb}
 use Rattle.std.specs.declared.option.Option.{Option}
 use Rattle.std.specs.declared.option.Option.the-variants.{Some, None}
 use Rattle.std.specs.shelf.Maps.{nth}
-use Rattle.device.specs.declared.Edge.{Edge}
 use Rattle.device.specs.Meaning.{Meaning, told, edge-of, guard-at, condition-of}
 use Rattle.sheet.specs.Conditions.{condition-at, condition-told, conditions-from}
 use Rattle.sheet.proofs.Records.{conditions-length}
 use Rattle.device_sheet.specs.Edges.{source-at, target-at, action-at, resets-at, first-at, count-at, transition-at}
 use Rattle.device_sheet.specs.Sheets.{table-meaning}
+use Rattle.table.specs.Meanings.{edge-told}
 
 from-past : (cs : List ℕ) (k n i : ℕ) → n ≤ i → nth (conditions-from cs k n) i ≡ None
 from-past cs k zero i h = refl
@@ -28,16 +28,6 @@ from-nth cs k (suc n) zero h = ap (λ j. Some (condition-at cs j)) (omega arith)
 from-nth cs k (suc n) (suc i) h =
     let e : k + 1 + i ≡ k + suc i = omega arith in
     from-nth cs (k + 1) n i (omega arith) ∙ ap (λ j. Some (condition-at cs j)) e
-
--- an edge as a table tells it
-abbrev pub edge-told : List ℕ → ℕ → Edge
-edge-told es e = record {
-  source = source-at es e;
-  target = target-at es e;
-  action = action-at es e;
-  resets = record { bits = resets-at es e };
-  conditions = count-at es e;
-}
 
 module _ (n s c m : ℕ) (es cs : List ℕ) (e : ℕ) where
   abbrev me : Meaning

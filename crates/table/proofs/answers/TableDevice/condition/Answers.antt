@@ -24,4 +24,4 @@ returns c =
     let fits = edge-at-fits (t .nodes) (t .start) (t .clocks) (t .constant) es cs (t .numbers) (t .few) (t .records) e (c .if-e-self .left) in
     let last : first-at es e + count-at es e ≤ length cs / 4 = fits .last in
     let within : i < count-at es e = c .if-place-self .left in
-    c .read-condition .ensures ∙ (ap (λ k. condition-told cs (k + i)) (c .first-condition .ensures .value) ∙ condition-some (t .nodes) (t .start) (t .clocks) (t .constant) es cs e i (c .if-e-self .left) within (omega (arith, last, within)))
+    c .read-condition .ensures ∙ (ap (condition-told cs) (c .condition-number .ensures) ∙ condition-some (t .nodes) (t .start) (t .clocks) (t .constant) es cs e i (c .if-e-self .left) within (omega (arith, last, within)))

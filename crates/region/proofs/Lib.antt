@@ -1,0 +1,5 @@
+pub mod Belows
+pub mod Rising
+mod Bounds
+mod Raises
+mod Resetting

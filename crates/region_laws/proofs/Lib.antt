@@ -1,0 +1,13 @@
+pub mod Reading
+pub mod Keeps
+pub mod Classes
+pub mod Differences
+pub mod Agreeing
+pub mod Equivalents
+pub mod Resets
+pub mod Moves
+pub mod Steps
+pub mod Climbing
+pub mod Delays
+pub mod Counting
+pub mod Examples

@@ -1,0 +1,5 @@
+pub mod Agreement
+pub mod Passing
+pub mod Chains
+pub mod Equivalence
+pub mod Examples
