@@ -12,15 +12,7 @@ pub use Rattle.device.specs.declared.Term.the-variants.{Clock, Difference}
 pub use Rattle.device.specs.declared.Condition.{Condition}
 pub use Rattle.device.specs.declared.ClockSet.{ClockSet}
 
--- the five relations with their numbers: <, ≤, =, ≥ and >
-abbrev pub relation-number : Relation → ℕ
-relation-number Less = 0
-relation-number AtMost = 1
-relation-number Equal = 2
-relation-number AtLeast = 3
-relation-number Greater = 4
-
--- the relation of a number; a number from 4 on stands for >, and sheets refuse those past 4
+-- the five relations with their numbers in sheets: <, ≤, =, ≥ and >; sheets refuse numbers past 4
 abbrev pub relation-of : ℕ → Relation
 relation-of n =
     cond (eqb n 0) Less (cond (eqb n 1) AtMost (cond (eqb n 2) Equal (cond (eqb n 3) AtLeast Greater)))

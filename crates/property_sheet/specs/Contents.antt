@@ -24,19 +24,6 @@ pub record Content : Type 0 where
 abbrev pub always : Content
 always = record { lines = True ∷ []; clocks = 0; constant = 0 }
 
--- the ten kinds of line with their numbers
-abbrev pub kind-of : Line → ℕ
-kind-of True = 0
-kind-of False = 1
-kind-of (Both p q) = 2
-kind-of (Either p q) = 3
-kind-of (SomeDelay p) = 4
-kind-of (EveryDelay p) = 5
-kind-of (SomeAction a p) = 6
-kind-of (EveryAction a p) = 7
-kind-of (Reset c p) = 8
-kind-of (Holds t) = 9
-
 -- a line names lines, an action, a clock and a condition that there are: n lines, c clocks, constants up to k
 abbrev pub Line-lawful : ℕ → ℕ → ℕ → Line → Type 0
 Line-lawful n c k True = Unit {0}

@@ -28,7 +28,7 @@ reserved-at ls k = byte-at ls (4 * k + 3)
 abbrev pub number-at : List ℕ → ℕ → ℕ
 number-at ls k = word-at ls (4 * k + 1)
 
--- the line of a kind with these operands and this condition; sheets refuse kinds past 9
+-- the ten kinds of line with their numbers, with these operands and this condition; sheets refuse kinds past 9
 abbrev pub line-of : ℕ → ℕ → ℕ → Condition → Line
 line-of kind p q t =
     cond (eqb kind 0) True

@@ -28,7 +28,11 @@ fn print_change(rt: &LibcRuntime, base: &Sheet, change: Change) -> Result<(), An
 }
 
 /// A line for each byte of each field.
-pub fn print_fields(rt: &LibcRuntime, base: &Sheet, fields: &[Field]) -> Result<(), AnyError> {
+pub(crate) fn print_fields(
+    rt: &LibcRuntime,
+    base: &Sheet,
+    fields: &[Field],
+) -> Result<(), AnyError> {
     for Field(place, bytes) in fields.iter() {
         for byte in bytes.iter() {
             print_change(rt, base, Change(*place, *byte))?;
@@ -56,7 +60,7 @@ fn print_property_changes(rt: &LibcRuntime) -> Result<(), AnyError> {
 }
 
 /// Both base sheets, byte by byte.
-pub fn print_changes(rt: &LibcRuntime) -> Result<(), AnyError> {
+pub(crate) fn print_changes(rt: &LibcRuntime) -> Result<(), AnyError> {
     print_device_changes(rt)?;
     print_property_changes(rt)
 }

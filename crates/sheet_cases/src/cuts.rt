@@ -31,7 +31,7 @@ fn print_as(rt: &LibcRuntime, kind: SheetKind, sheet: &Sheet) -> Result<(), AnyE
 }
 
 /// Both base sheets, cut short at every byte; then each as the other kind, short and whole.
-pub fn print_cuts(rt: &LibcRuntime) -> Result<(), AnyError> {
+pub(crate) fn print_cuts(rt: &LibcRuntime) -> Result<(), AnyError> {
     let device = Sheet::device(rt.alloc())?;
     let property = Sheet::property(rt.alloc())?;
     print_cuts_of(rt, &device)?;

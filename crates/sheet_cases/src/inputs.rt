@@ -72,7 +72,7 @@ fn print_told(rt: &LibcRuntime, told: [u8; 2]) -> Result<(), AnyError> {
 }
 
 /// Short inputs, and inputs of both base sheets.
-pub fn print_inputs(rt: &LibcRuntime) -> Result<(), AnyError> {
+pub(crate) fn print_inputs(rt: &LibcRuntime) -> Result<(), AnyError> {
     for bytes in SHORT.iter() {
         print_short(rt, bytes)?;
     }

@@ -107,7 +107,7 @@ fn print_kept_properties(rt: &LibcRuntime) -> Result<(), AnyError> {
 }
 
 /// Tables and properties that are loaded twice.
-pub fn print_kept(rt: &LibcRuntime) -> Result<(), AnyError> {
+pub(crate) fn print_kept(rt: &LibcRuntime) -> Result<(), AnyError> {
     print_kept_devices(rt)?;
     print_kept_properties(rt)
 }

@@ -183,7 +183,7 @@ fn print_full_property(rt: &LibcRuntime) -> Result<(), AnyError> {
 }
 
 /// The full device and the full property.
-pub fn print_largest(rt: &LibcRuntime) -> Result<(), AnyError> {
+pub(crate) fn print_largest(rt: &LibcRuntime) -> Result<(), AnyError> {
     print_full_device(rt)?;
     print_full_property(rt)
 }

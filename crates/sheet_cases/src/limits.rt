@@ -139,7 +139,7 @@ fn print_far(
 }
 
 /// Lengths of sheets, counts of records, and sections far out.
-pub fn print_limits(rt: &LibcRuntime) -> Result<(), AnyError> {
+pub(crate) fn print_limits(rt: &LibcRuntime) -> Result<(), AnyError> {
     let device = Sheet::device(rt.alloc())?;
     let property = Sheet::property(rt.alloc())?;
     print_lengths(rt, &device)?;

@@ -116,7 +116,11 @@ fn print_pair(rt: &LibcRuntime, base: &Sheet, pair: [Change; 2]) -> Result<(), A
 }
 
 /// A line for each pair.
-pub fn print_pairs(rt: &LibcRuntime, base: &Sheet, pairs: &[[Change; 2]]) -> Result<(), AnyError> {
+pub(crate) fn print_pairs(
+    rt: &LibcRuntime,
+    base: &Sheet,
+    pairs: &[[Change; 2]],
+) -> Result<(), AnyError> {
     for pair in pairs.iter() {
         print_pair(rt, base, *pair)?;
     }
@@ -124,7 +128,7 @@ pub fn print_pairs(rt: &LibcRuntime, base: &Sheet, pairs: &[[Change; 2]]) -> Res
 }
 
 /// Both base sheets with two bytes changed.
-pub fn print_orders(rt: &LibcRuntime) -> Result<(), AnyError> {
+pub(crate) fn print_orders(rt: &LibcRuntime) -> Result<(), AnyError> {
     let device = Sheet::device(rt.alloc())?;
     let property = Sheet::property(rt.alloc())?;
     print_pairs(rt, &device, &DEVICE_PAIRS)?;

@@ -83,7 +83,7 @@ fn add_conditions(sheet: &mut Sheet, count: u16) -> Result<(), AllocError> {
 }
 
 /// A device sheet of 64 nodes and 4 clocks.
-pub fn full_device(heap: Global, counts: Counts) -> Result<Sheet, AllocError> {
+pub(crate) fn full_device(heap: Global, counts: Counts) -> Result<Sheet, AllocError> {
     let mut bytes = Vec::from_slice(heap, &[b'D', 64, 4, 15, 63, 2, 0, 0])?;
     bytes.extend_from_slice(&directory(8, counts))?;
     for e in 0..counts.records {
@@ -99,7 +99,7 @@ pub fn full_device(heap: Global, counts: Counts) -> Result<Sheet, AllocError> {
 }
 
 /// A property sheet of 2 clocks.
-pub fn full_property(heap: Global, counts: Counts) -> Result<Sheet, AllocError> {
+pub(crate) fn full_property(heap: Global, counts: Counts) -> Result<Sheet, AllocError> {
     let mut bytes = Vec::from_slice(heap, &[b'P', 0, 2, 15, 0, 2, 0, 0])?;
     bytes.extend_from_slice(&directory(4, counts))?;
     for k in 0..counts.records {

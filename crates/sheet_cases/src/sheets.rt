@@ -74,7 +74,7 @@ fn joined(heap: Global, rows: &[[u8; 4]]) -> Result<Vec<u8>, AllocError> {
 
 impl Sheet {
     /// The base device sheet.
-    pub fn device(heap: Global) -> Result<Sheet, AllocError> {
+    pub(crate) fn device(heap: Global) -> Result<Sheet, AllocError> {
         let bytes = joined(heap, &DEVICE)?;
         Ok(Sheet {
             name: "device",
@@ -84,7 +84,7 @@ impl Sheet {
     }
 
     /// The base property sheet.
-    pub fn property(heap: Global) -> Result<Sheet, AllocError> {
+    pub(crate) fn property(heap: Global) -> Result<Sheet, AllocError> {
         let bytes = joined(heap, &PROPERTY)?;
         Ok(Sheet {
             name: "property",
@@ -94,7 +94,7 @@ impl Sheet {
     }
 
     /// A copy with some bytes changed; a change past the end is left out.
-    pub fn with(&self, heap: Global, changes: &[Change]) -> Result<Sheet, AllocError> {
+    pub(crate) fn with(&self, heap: Global, changes: &[Change]) -> Result<Sheet, AllocError> {
         let mut bytes = Vec::from_slice(heap, self.bytes.as_slice())?;
         for Change(place, byte) in changes.iter() {
             if let Some(old) = bytes.get_mut(*place) {
@@ -109,7 +109,7 @@ impl Sheet {
     }
 
     /// A copy with this length, cut short or filled up with 0.
-    pub fn of_length(&self, heap: Global, length: usize) -> Result<Sheet, AllocError> {
+    pub(crate) fn of_length(&self, heap: Global, length: usize) -> Result<Sheet, AllocError> {
         let mut bytes = Vec::from_slice(heap, self.bytes.as_slice())?;
         bytes.resize(length, 0)?;
         Ok(Sheet {
@@ -120,7 +120,7 @@ impl Sheet {
     }
 
     /// Whether the sheet is accepted.
-    pub fn verdict(&self, heap: Global) -> Result<Verdict, AllocError> {
+    pub(crate) fn verdict(&self, heap: Global) -> Result<Verdict, AllocError> {
         judge(heap, self.kind, self.bytes.as_slice())
     }
 }

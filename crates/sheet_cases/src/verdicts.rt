@@ -27,7 +27,7 @@ pub impl fmt::Display for Verdict as VerdictText {
 
 impl Verdict {
     /// The verdict on a sheet of this kind, by what its load answered.
-    pub fn of(kind: SheetKind, answer: Result<(), SheetFault>) -> Verdict {
+    pub(crate) fn of(kind: SheetKind, answer: Result<(), SheetFault>) -> Verdict {
         match answer {
             Ok(()) => Verdict::Accepted,
             Err(fault) => Verdict::Refused(Refused { kind, fault }),
@@ -36,7 +36,7 @@ impl Verdict {
 }
 
 /// Loads a sheet of this kind into a new table or a new property.
-pub fn judge(heap: Global, kind: SheetKind, bytes: &[u8]) -> Result<Verdict, AllocError> {
+pub(crate) fn judge(heap: Global, kind: SheetKind, bytes: &[u8]) -> Result<Verdict, AllocError> {
     let answer = match kind {
         SheetKind::Device => Table::new().load(bytes),
         SheetKind::Property => Property::new(heap)?.load(bytes),
