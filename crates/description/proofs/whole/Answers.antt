@@ -15,14 +15,14 @@ pub returns : goal.returns
 returns c =
     let m = meaning_of c.args.device.now in
     let s = content_of c.args.property.now in
-    let x = string_bytes c.in-ok-device-part.device_part in
-    let y = string_bytes c.in-ok-property-part.property_part in
-    let z = string_bytes c.in-ok-closing.closing in
+    let x = string_bytes c.in_ok-device_part.device_part in
+    let y = string_bytes c.in_ok-property_part.property_part in
+    let z = string_bytes c.in_ok-closing.closing in
     let e = c.number-edges.result in
-    let n = c.line-count.result in
+    let n = c.line_count.result in
     let total = guard_lengths m 0 m.edges in
-    let count : c.guard-lengths-conditions.result ≡ total = c.guard-lengths-conditions.ensures ∙ ap (guard_lengths m 0) c.number-edges.ensures in
-    let last : z ≡ closing_text m.edges total (length s.lines) = c.in-ok-closing.ensures ∙ (ap (λ k. closing_text e k n) count ∙ (ap (λ k. closing_text k total n) c.number-edges.ensures ∙ ap (closing_text m.edges total) c.line-count.ensures)) in
+    let count : c.guard_lengths-conditions.result ≡ total = c.guard_lengths-conditions.ensures ∙ ap (guard_lengths m 0) c.number-edges.ensures in
+    let last : z ≡ closing_text m.edges total (length s.lines) = c.in_ok-closing.ensures ∙ (ap (λ k. closing_text e k n) count ∙ (ap (λ k. closing_text k total n) c.number-edges.ensures ∙ ap (closing_text m.edges total) c.line_count.ensures)) in
     IfOk-weaker c.format.result (λ t. string_bytes t ≡ x ++ (y ++ z)) (λ t. string_bytes t ≡ whole_text m s)
-    (λ t e. e ∙ three x y z (device_text m) (property_text s) (closing_text m.edges total (length s.lines)) c.in-ok-device-part.ensures c.in-ok-property-part.ensures last)
+    (λ t e. e ∙ three x y z (device_text m) (property_text s) (closing_text m.edges total (length s.lines)) c.in_ok-device_part.ensures c.in_ok-property_part.ensures last)
     c.format.ensures.ok

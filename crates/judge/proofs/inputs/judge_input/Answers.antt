@@ -12,12 +12,12 @@ returns-in-Err c =
 pub returns-in-Err-load : goal.returns-in-Err-load
 returns-in-Err-load c =
     let t = property_refused c.args.input.now c.args.chart.now c.split-sheets.result.device.now c.split-sheets.result.property.now c.split-sheets.ensures.device c.split-sheets.ensures.property
-    (meaning_of c.load.new.self) c.in-Err-load.fault c.in-default.ensures.read c.in-Err-load.ensures.read.0 in
+    (meaning_of c.load.new.self) c.in-Err-load.fault c.in_default.ensures.read c.in-Err-load.ensures.read.0 in
     record { report = t.report; right = t.right }
 
 pub returns : goal.returns
 returns c =
     let t = both_read c.args.input.now c.args.chart.now c.split-sheets.result.device.now c.split-sheets.result.property.now c.split-sheets.ensures.device c.split-sheets.ensures.property
-    (meaning_of c.load.new.self) (content_of c.load-2.new.self) c.judge-device.result c.judge-device.new.chart
-    c.in-default.ensures.read c.in-default-load.ensures.read c.judge-device.ensures.report c.judge-device.ensures.right in
+    (meaning_of c.load.new.self) (content_of c.load-2.new.self) c.judge_device.result c.judge_device.new.chart
+    c.in_default.ensures.read c.in_default-load.ensures.read c.judge_device.ensures.report c.judge_device.ensures.right in
     record { report = t.report; right = t.right }

@@ -4,16 +4,16 @@ use Rattle.sheet.specs.Conditions.{condition_limits}
 use Rattle.sheet.proofs.Checks.{goes_on, stops}
 use Rattle.sheet.proofs.conditions.check_conditions.Goals as goal
 
-pub returns-in-err-check-condition : goal.returns-in-err-check-condition
-returns-in-err-check-condition c =
-    let p = err_from_is_err_and c.from-residual.result c.from-residual.ensures.1 in
+pub returns-in_err-check_condition : goal.returns-in_err-check_condition
+returns-in_err-check_condition c =
+    let p = err_from_is_err_and c.from_residual.result c.from_residual.ensures.1 in
     let cs = c.args.section.now in
     let f = condition_limits c.args.rules.clocks c.args.rules.constant cs c.args.rules.at in
     rw (p.1, p.2)
-    (sym (stops f (length cs / 4) c.loop-k.k c.loop-k.invariant c.in-err-check-condition.field-0.0 (omega arith) (sym c.in-err-check-condition.ensures)))
+    (sym (stops f (length cs / 4) c.loop-k.k c.loop-k.invariant c.in_err-check_condition.field-0.0 (omega arith) (sym c.in_err-check_condition.ensures)))
 
 pub loop-k-preserved : goal.loop-k-preserved
 loop-k-preserved c =
     let cs = c.args.section.now in
     let f = condition_limits c.args.rules.clocks c.args.rules.constant cs c.args.rules.at in
-    goes_on f (length cs / 4) c.loop-k.k c.loop-k.invariant (omega arith) (sym c.in-ok-check-condition.ensures)
+    goes_on f (length cs / 4) c.loop-k.k c.loop-k.invariant (omega arith) (sym c.in_ok-check_condition.ensures)

@@ -5,19 +5,19 @@ use Rattle.sheet.proofs.Layers.{conditions_broken, records_broken, sections_kept
 use Rattle.device_sheet.specs.Sheets.{edges_limits}
 use Rattle.table.proofs.load.check_sections.Goals as goal
 
-pub returns-in-err-check-conditions : goal.returns-in-err-check-conditions
-returns-in-err-check-conditions c =
+pub returns-in_err-check_conditions : goal.returns-in_err-check_conditions
+returns-in_err-check_conditions c =
     let b = c.args.reader.now.sheet.now in
-    let p = err_from_is_err_and c.from-residual-in-err-check-conditions.result c.from-residual-in-err-check-conditions.ensures.1 in
-    p.1 ∙ (ap Err p.2 ∙ conditions_broken b c.args.reader.now.kind Device c.requires (edges_limits b) c.in-ok-check-directory.ensures c.in-err-check-conditions.field-0.0 c.in-err-check-conditions.ensures)
+    let p = err_from_is_err_and c.from_residual-in_err-check_conditions.result c.from_residual-in_err-check_conditions.ensures.1 in
+    p.1 ∙ (ap Err p.2 ∙ conditions_broken b c.args.reader.now.kind Device c.requires (edges_limits b) c.in_ok-check_directory.ensures c.in_err-check_conditions.field-0.0 c.in_err-check_conditions.ensures)
 
-pub returns-in-err-check-edge-section : goal.returns-in-err-check-edge-section
-returns-in-err-check-edge-section c =
+pub returns-in_err-check_edge_section : goal.returns-in_err-check_edge_section
+returns-in_err-check_edge_section c =
     let b = c.args.reader.now.sheet.now in
-    let p = err_from_is_err_and c.from-residual-in-err-check-edge-section.result c.from-residual-in-err-check-edge-section.ensures.1 in
-    p.1 ∙ (ap Err p.2 ∙ records_broken b c.args.reader.now.kind Device c.requires (edges_limits b) c.in-ok-check-directory.ensures c.in-ok-check-conditions.ensures c.in-err-check-edge-section.field-0.0 c.in-err-check-edge-section.ensures)
+    let p = err_from_is_err_and c.from_residual-in_err-check_edge_section.result c.from_residual-in_err-check_edge_section.ensures.1 in
+    p.1 ∙ (ap Err p.2 ∙ records_broken b c.args.reader.now.kind Device c.requires (edges_limits b) c.in_ok-check_directory.ensures c.in_ok-check_conditions.ensures c.in_err-check_edge_section.field-0.0 c.in_err-check_edge_section.ensures)
 
 pub returns : goal.returns
 returns c =
     let b = c.args.reader.now.sheet.now in
-    sections_kept b c.args.reader.now.kind Device c.requires (edges_limits b) c.in-ok-check-directory.ensures c.in-ok-check-conditions.ensures c.in-ok-check-edge-section.ensures
+    sections_kept b c.args.reader.now.kind Device c.requires (edges_limits b) c.in_ok-check_directory.ensures c.in_ok-check_conditions.ensures c.in_ok-check_edge_section.ensures

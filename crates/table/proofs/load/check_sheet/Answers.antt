@@ -5,13 +5,13 @@ use Rattle.sheet.proofs.Layers.{sections_broken, sheet_kept}
 use Rattle.device_sheet.specs.Sheets.{edges_limits}
 use Rattle.table.proofs.load.check_sheet.Goals as goal
 
-pub returns-in-err-check-sections : goal.returns-in-err-check-sections
-returns-in-err-check-sections c =
+pub returns-in_err-check_sections : goal.returns-in_err-check_sections
+returns-in_err-check_sections c =
     let b = c.args.reader.now.sheet.now in
-    let p = err_from_is_err_and c.from-residual-in-err-check-sections.result c.from-residual-in-err-check-sections.ensures.1 in
-    p.1 ∙ (ap Err p.2 ∙ sections_broken b c.args.reader.now.kind Device c.requires (edges_limits b) c.in-ok-check-header.ensures c.in-err-check-sections.field-0.0 c.in-err-check-sections.ensures)
+    let p = err_from_is_err_and c.from_residual-in_err-check_sections.result c.from_residual-in_err-check_sections.ensures.1 in
+    p.1 ∙ (ap Err p.2 ∙ sections_broken b c.args.reader.now.kind Device c.requires (edges_limits b) c.in_ok-check_header.ensures c.in_err-check_sections.field-0.0 c.in_err-check_sections.ensures)
 
 pub returns : goal.returns
 returns c =
     let b = c.args.reader.now.sheet.now in
-    sheet_kept b c.args.reader.now.kind Device c.requires (edges_limits b) c.in-ok-check-header.ensures c.in-ok-check-sections.ensures
+    sheet_kept b c.args.reader.now.kind Device c.requires (edges_limits b) c.in_ok-check_header.ensures c.in_ok-check_sections.ensures

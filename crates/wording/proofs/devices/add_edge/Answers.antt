@@ -11,5 +11,5 @@ returns g c =
     let x = c.in-Some.edge in
     let s₀ = string_bytes c.args.out.now in
     let f : ℕ → List ℕ = λ i. clause_text (condition_of m c.args.number i) in
-    let whole = four_added (ends_text c.args.number x) (texts f 0 x.conditions) (texts (reset_text x.resets.bits) 0 8) (codes "\n") s₀ (string_bytes c.append.new.out) (string_bytes c.add-guard.new.out) (string_bytes c.add-resets.new.out) (string_bytes c.push-str.new.self) (c.in-ok-append.ensures ∙ ap (λ l. s₀ ++ l) c.in-ok-ends.ensures) c.in-ok-add-guard.ensures c.in-ok-add-resets.ensures c.in-ok-push-str.ensures.bytes in
+    let whole = four_added (ends_text c.args.number x) (texts f 0 x.conditions) (texts (reset_text x.resets.bits) 0 8) (codes "\n") s₀ (string_bytes c.append.new.out) (string_bytes c.add_guard.new.out) (string_bytes c.add_resets.new.out) (string_bytes c.push_str.new.self) (c.in_ok-append.ensures ∙ ap (λ l. s₀ ++ l) c.in_ok-ends.ensures) c.in_ok-add_guard.ensures c.in_ok-add_resets.ensures c.in_ok-push_str.ensures.bytes in
     rw c.in-Some.is whole

@@ -6,8 +6,8 @@ use Rattle.wording.proofs.devices.add_edges.Goals as goal
 pub loop-number-preserved : goal.loop-number-preserved
 loop-number-preserved g c =
     let m = g.D.Device.meaning c.args.device.now in
-    let a = c.in-ok-add-edge.ensures in
-    written_more (edge_text m) c.args.count (string_bytes c.args.out.now) c.loop-number.number (string_bytes c.loop-number.out) c.loop-number.invariant (string_bytes c.add-edge.new.out) (omega arith) (a ∙ ap (λ x. string_bytes c.loop-number.out ++ edge_line m c.loop-number.number x) c.edge.ensures)
+    let a = c.in_ok-add_edge.ensures in
+    written_more (edge_text m) c.args.count (string_bytes c.args.out.now) c.loop-number.number (string_bytes c.loop-number.out) c.loop-number.invariant (string_bytes c.add_edge.new.out) (omega arith) (a ∙ ap (λ x. string_bytes c.loop-number.out ++ edge_line m c.loop-number.number x) c.edge.ensures)
 
 pub returns : goal.returns
 returns g c =

@@ -11,4 +11,4 @@ returns g c =
     let k = c.number-clocks.result in
     let l = c.number-constant.result in
     let e = c.number-edges.result in
-    c.in-ok-add-edges.ensures ∙ (ap (λ t. t ++ texts (edge_text m) 0 e) c.in-ok-out.ensures ∙ (ap (λ x. numbers_text x s k l e ++ texts (edge_text m) 0 e) c.number-nodes.ensures ∙ (ap (λ x. numbers_text m.nodes x k l e ++ texts (edge_text m) 0 e) c.number-start.ensures ∙ (ap (λ x. numbers_text m.nodes m.start x l e ++ texts (edge_text m) 0 e) c.number-clocks.ensures ∙ (ap (λ x. numbers_text m.nodes m.start m.clocks x e ++ texts (edge_text m) 0 e) c.number-constant.ensures ∙ ap (λ x. numbers_text m.nodes m.start m.clocks m.constant x ++ texts (edge_text m) 0 x) c.number-edges.ensures)))))
+    c.in_ok-add_edges.ensures ∙ (ap (λ t. t ++ texts (edge_text m) 0 e) c.in_ok-out.ensures ∙ (ap (λ x. numbers_text x s k l e ++ texts (edge_text m) 0 e) c.number-nodes.ensures ∙ (ap (λ x. numbers_text m.nodes x k l e ++ texts (edge_text m) 0 e) c.number-start.ensures ∙ (ap (λ x. numbers_text m.nodes m.start x l e ++ texts (edge_text m) 0 e) c.number-clocks.ensures ∙ (ap (λ x. numbers_text m.nodes m.start m.clocks x e ++ texts (edge_text m) 0 e) c.number-constant.ensures ∙ ap (λ x. numbers_text m.nodes m.start m.clocks m.constant x ++ texts (edge_text m) 0 x) c.number-edges.ensures)))))

@@ -8,8 +8,8 @@ use Rattle.wording.proofs.properties.add_lines.Goals as goal
 pub loop-number-preserved : goal.loop-number-preserved
 loop-number-preserved c =
     let f : ℕ → List ℕ = λ p. numbered_text p (slice_get (content_of c.args.property.now).lines p) in
-    let a = c.in-ok-append.ensures in
-    let t = c.in-ok-numbered-line.ensures in
+    let a = c.in_ok-append.ensures in
+    let t = c.in_ok-numbered_line.ensures in
     written_more f c.args.count (string_bytes c.args.out.now) c.loop-number.number (string_bytes c.loop-number.out) c.loop-number.invariant (string_bytes c.append.new.out) (omega arith) (a ∙ ap (λ l. string_bytes c.loop-number.out ++ l) (t ∙ ap (numbered_text c.loop-number.number) c.line.ensures))
 
 pub returns : goal.returns

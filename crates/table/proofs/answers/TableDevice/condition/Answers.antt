@@ -21,4 +21,4 @@ returns c =
     let fits = edge_at_fits t.nodes t.start t.clocks t.constant es cs t.numbers t.few t.records e c.if-e-self.false in
     let last : first_at es e + count_at es e ≤ length cs / 4 = fits.last in
     let within : i < count_at es e = c.if-place-self.false in
-    c.read-condition.ensures ∙ (ap (condition_told cs) c.condition-number.ensures ∙ condition_some t.nodes t.start t.clocks t.constant es cs e i c.if-e-self.false within (omega (arith, last, within)))
+    c.read_condition.ensures ∙ (ap (condition_told cs) c.condition_number.ensures ∙ condition_some t.nodes t.start t.clocks t.constant es cs e i c.if-e-self.false within (omega (arith, last, within)))

@@ -6,11 +6,11 @@ use Rattle.device_sheet.proofs.Fitting.{device_fits_from}
 use Rattle.device_sheet.proofs.Lawfuls.{told_numbers, told_few, told_records}
 use Rattle.table.proofs.held.Table.load.Goals as goal
 
--- the ghost fields of the new table, in their order
-pub invariant-of-self : goal.invariant-of-self
-invariant-of-self c =
+-- the ghost fields of the new table
+pub invariant_of-self : goal.invariant_of-self
+invariant_of-self c =
     let b = c.new-reader.result.sheet.now in
-    let f = device_fits_from b (sym c.in-ok-check-sheet.ensures) in
+    let f = device_fits_from b (sym c.in_ok-check_sheet.ensures) in
     let n = c.byte.result in
     let s = c.byte-2.result in
     let k = c.byte-3.result in
@@ -18,21 +18,20 @@ invariant-of-self c =
     let es = c.sections-sections.result.records.now in
     let cs = c.sections-sections.result.conditions.now in
     let ie = c.sections-sections.ensures.records in
-    let ic = c.sections-sections.ensures.conditions in (
-      told_numbers b f n s k m es cs c.byte.ensures c.byte-2.ensures c.byte-3.ensures c.byte-4.ensures ie ic,
-      (
-        told_few b f n s k m es cs c.byte.ensures c.byte-2.ensures c.byte-3.ensures c.byte-4.ensures ie ic,
-        (told_records b f n s k m es cs c.byte.ensures c.byte-2.ensures c.byte-3.ensures c.byte-4.ensures ie ic, tt),
-      ),
-    )
+    let ic = c.sections-sections.ensures.conditions in
+    record {
+      numbers = told_numbers b f n s k m es cs c.byte.ensures c.byte-2.ensures c.byte-3.ensures c.byte-4.ensures ie ic;
+      few = told_few b f n s k m es cs c.byte.ensures c.byte-2.ensures c.byte-3.ensures c.byte-4.ensures ie ic;
+      records = told_records b f n s k m es cs c.byte.ensures c.byte-2.ensures c.byte-3.ensures c.byte-4.ensures ie ic;
+    }
 
-pub returns-in-err-check-sheet : goal.returns-in-err-check-sheet
-returns-in-err-check-sheet c =
-    let p = err_from_is_err_and c.from-residual.result c.from-residual.ensures.1 in
-    let told = device_told c.new-reader.result.sheet.now c.args.sheet.now c.in-err-check-sheet.field-0.0 c.new-reader.ensures.bytes c.in-err-check-sheet.ensures in
+pub returns-in_err-check_sheet : goal.returns-in_err-check_sheet
+returns-in_err-check_sheet c =
+    let p = err_from_is_err_and c.from_residual.result c.from_residual.ensures.1 in
+    let told = device_told c.new-reader.result.sheet.now c.args.sheet.now c.in_err-check_sheet.field-0.0 c.new-reader.ensures.bytes c.in_err-check_sheet.ensures in
     record { read = search rules; limits = rw (p.1, p.2) told }
 
 pub returns : goal.returns
 returns c =
-    let fits = device_fits_from c.new-reader.result.sheet.now (sym c.in-ok-check-sheet.ensures) in
+    let fits = device_fits_from c.new-reader.result.sheet.now (sym c.in_ok-check_sheet.ensures) in
     record { read = search rules; limits = subst DeviceFits c.new-reader.ensures.bytes fits }
