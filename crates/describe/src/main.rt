@@ -1,5 +1,7 @@
 //! Says in plain words what a checker's input is: reads it from standard input, and prints the
 //! device, the property and how much was read, or which sheet is refused and why.
+#![tactic(auto)]
+
 use description::describe;
 use std::io;
 use std::io::Read;

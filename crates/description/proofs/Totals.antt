@@ -1,5 +1,5 @@
 -- A loop that adds up the lengths of guards.
-use Rattle.std.proofs.Common.{◌≡◌, ℕ, suc, ◌+◌, ◌-◌, ◌<◌, ◌≤◌, sym, ap, ◌∙◌, arith}
+use Rattle.std.proofs.Common.{◌≡◌, ℕ, suc, ◌+◌, ◌-◌, ◌<◌, ◌≤◌, ap, ◌∙◌, arith}
 use Rattle.device.specs.Meaning.{Meaning, edge_of}
 use Rattle.description.specs.Descriptions.{guard_length, guard_lengths}
 

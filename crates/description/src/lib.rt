@@ -1,4 +1,6 @@
 //! From the bytes of a checker's input to a description in plain words.
+#![tactic(auto)]
+
 ghost use Rattle.std.specs.Prelude.{◌≡◌, IfOk, string_bytes};
 ghost use Rattle.table.specs.Meanings.{meaning_of};
 ghost use Rattle.property.specs.Contents.{content_of};

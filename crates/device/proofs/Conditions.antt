@@ -1,5 +1,5 @@
 -- Lawful conditions stay lawful over more clocks and larger constants, and over clocks numbered after others.
-use Rattle.std.proofs.Common.{◌≡◌, ℕ, ◌+◌, ◌<◌, ◌≤◌, ℤ, pos, neg_ℤ, ◌≤ℤ◌, arith}
+use Rattle.std.proofs.Common.{ℕ, ◌+◌, ◌≤◌, ℤ, ◌≤ℤ◌, arith}
 use Rattle.std.proofs.lemmas.Int.{ints}
 use Rattle.device.specs.declared.Term.{Term}
 use Rattle.device.specs.declared.Term.TheVariants.{Clock, Difference}

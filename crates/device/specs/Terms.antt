@@ -1,5 +1,5 @@
 -- Relations, terms, conditions and sets of clocks: their numbers in sheets and their limits.
-use Rattle.std.specs.Prelude.{◌≡◌, ℕ, ◌+◌, ◌/◌, ◌%◌, ◌^◌, ◌<◌, Bool, false, cond, ◌&&◌, ℤ, pos, neg_ℤ, ◌≤ℤ◌, ◌==◌, ◌≢◌, nat_lt}
+use Rattle.std.specs.Prelude.{ℕ, ◌+◌, ◌/◌, ◌%◌, ◌^◌, ◌<◌, Bool, false, cond, ◌&&◌, ℤ, pos, neg_ℤ, ◌≤ℤ◌, ◌==◌, ◌≢◌, nat_lt}
 pub use Rattle.device.specs.declared.Relation.{Relation}
 pub use Rattle.device.specs.declared.Relation.TheVariants.{Less, AtMost, Equal, AtLeast, Greater}
 pub use Rattle.device.specs.declared.Term.{Term}

@@ -1,4 +1,6 @@
 //! A device with clocks: a timed automaton, known by its meaning and by three kinds of question.
+#![tactic(auto)]
+
 ghost use Rattle.std.specs.Prelude.{◌≡◌, if◌then◌else◌, Some, None};
 ghost use Rattle.device.specs.Meaning.{Meaning, Lawful, number_of, edge_of, condition_of};
 ghost use Rattle.device.specs.Terms.{has_clock, numbers_fit, renumbered, renumbered_term};

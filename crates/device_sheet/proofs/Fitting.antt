@@ -1,14 +1,14 @@
 -- A device sheet's check passes exactly if its named limits hold.
-use Rattle.std.proofs.Common.{◌≡◌, ℕ, ◌+◌, ◌*◌, ◌/◌, ◌^◌, ◌<◌, ◌≤◌, true, ◌&&◌, eqb, ltb, leb, List, ◌++◌, length, refl, arith}
+use Rattle.std.proofs.Common.{ℕ, ◌+◌, ◌/◌, ◌^◌, leb, List, ◌++◌, length, arith}
 use Rattle.std.proofs.lemmas.Bool.{and_parts, and_from, eqb-true, eq-eqb, leb-true, le-leb, ltb-true, lt-ltb}
 use Rattle.sheet.specs.declared.kinds.SheetKind.TheVariants.{Device}
 use Rattle.sheet.specs.declared.kinds.RecordKind.TheVariants.{Edges}
 use Rattle.sheet.specs.declared.faults.DirectoryFault.TheVariants.{InRecord}
 use Rattle.sheet.specs.declared.faults.SheetFault.TheVariants.{InDirectory}
-use Rattle.sheet.specs.Layout.{byte_at, offset_of, section_of, counts_limits, header_limits, directory_limits}
+use Rattle.sheet.specs.Layout.{byte_at, offset_of, section_of, header_limits, directory_limits}
 use Rattle.sheet.specs.Limits.{held_in}
 use Rattle.sheet.specs.Conditions.{conditions_limits}
-use Rattle.sheet.proofs.Passed.{Passed, AllKept, kept_from, passed_from, passed_both, passed_append, passed_below, passed_above, passed_each, passed_all}
+use Rattle.sheet.proofs.Passed.{Passed, kept_from, passed_from, passed_both, passed_append, passed_below, passed_above, passed_each, passed_all}
 use Rattle.sheet.proofs.Fitting.{Shared, shared_from, header_passed, directory_passed, conditions_passed}
 use Rattle.device_sheet.specs.Edges.{source_at, target_at, action_at, resets_at, first_at, count_at, reserved_at, edge_limits}
 use Rattle.device_sheet.specs.Sheets.{edges_limits, sections_limits, device_limits}

@@ -1,5 +1,5 @@
 -- A table within its limits means a lawful device, and a sheet that is read gives such a table.
-use Rattle.std.proofs.Common.{◌≡◌, ℕ, ◌+◌, ◌*◌, ◌/◌, ◌<◌, ◌≤◌, Bool, true, false, cond, ltb, List, length, take, drop, is_ok, Some, None, Ok, Err, Result, sym, refl, ap, ◌∙◌, subst, arith, length-take}
+use Rattle.std.proofs.Common.{◌≡◌, ℕ, ◌+◌, ◌/◌, ◌<◌, ◌≤◌, Bool, true, false, cond, ltb, List, length, drop, is_ok, Some, None, Ok, Err, Result, refl, ap, ◌∙◌, subst, arith, length-take}
 use Rattle.std.proofs.lemmas.Bool.{ltb-true, le-ltb}
 use Rattle.device.specs.Meaning.{Meaning, Transition, Lawful, TransitionLawful}
 use Rattle.sheet.specs.declared.faults.RecordFault.{RecordFault}

@@ -1,5 +1,5 @@
 -- An edge record: from, to, action, resets as bits, first condition (two bytes), their count, 0.
-use Rattle.std.specs.Prelude.{ℕ, ◌+◌, ◌*◌, ◌/◌, ◌^◌, ◌&&◌, List, [], ◌∷◌, length, ◌==◌, nat_le, nat_lt}
+use Rattle.std.specs.Prelude.{ℕ, ◌+◌, ◌*◌, ◌^◌, ◌&&◌, List, [], ◌∷◌, ◌==◌, nat_le, nat_lt}
 use Rattle.device.specs.Meaning.{Transition}
 use Rattle.sheet.specs.declared.faults.RecordFault.{RecordFault}
 use Rattle.sheet.specs.declared.kinds.RecordKind.TheVariants.{Edges}

@@ -1,5 +1,5 @@
 -- The limits of a device sheet as named facts.
-use Rattle.std.specs.Prelude.{◌≡◌, ℕ, ◌+◌, ◌*◌, ◌/◌, ◌%◌, ◌^◌, ◌<◌, ◌≤◌, List, length}
+use Rattle.std.specs.Prelude.{◌≡◌, ℕ, ◌+◌, ◌/◌, ◌%◌, ◌^◌, ◌<◌, ◌≤◌, List, length}
 use Rattle.sheet.specs.Layout.{byte_at, extent_of, section_of}
 use Rattle.sheet.specs.Fits.{SheetFits}
 use Rattle.device_sheet.specs.Edges.{source_at, target_at, action_at, resets_at, first_at, count_at, reserved_at}

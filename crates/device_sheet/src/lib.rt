@@ -1,1 +1,2 @@
 //! What a device sheet means.
+#![tactic(auto)]

@@ -1,5 +1,5 @@
 -- The report of a run on a chart is right: from the law, at the three calls that judging makes.
-use Rattle.std.proofs.Common.{◌≡◌, ℕ, zero, suc, ◌+◌, ◌-◌, ◌*◌, ◌<◌, ◌≤◌, min, Bool, true, false, cond, ◌⊎◌, List, [], ◌∷◌, length, take, Some, None, Ok, Err, Option, Result, sym, refl, ap, ◌∙◌, subst, inl, inr, ⊎_elim, arith}
+use Rattle.std.proofs.Common.{◌≡◌, ℕ, ◌+◌, ◌-◌, ◌*◌, ◌<◌, ◌≤◌, min, Bool, true, false, cond, ◌⊎◌, List, [], ◌∷◌, length, take, Some, Ok, Err, Result, sym, refl, ap, ◌∙◌, subst, inl, inr, ⊎_elim, arith}
 use Rattle.std.proofs.lemmas.Nat.{mul-le}
 use Rattle.std.proofs.lemmas.Bool.{cases_lt, cases_Bool}
 use Rattle.std.specs.List.{slice_get}
@@ -10,23 +10,22 @@ use Rattle.chart.specs.declared.progress.Progress.{Progress}
 use Rattle.chart.specs.declared.answers.Call.{Call}
 use Rattle.chart.specs.declared.answers.Call.TheVariants.{Grow, Thin, Ask}
 use Rattle.chart.specs.declared.answers.Verdict.{Verdict}
-use Rattle.chart.specs.declared.answers.Verdict.TheVariants.{Yes, No, NotYet}
-use Rattle.chart.specs.declared.answers.Answer.{Answer}
+use Rattle.chart.specs.declared.answers.Verdict.TheVariants.{Yes, No}
 use Rattle.chart.specs.declared.answers.Answer.TheVariants.{Did, Said}
 use Rattle.chart.specs.declared.answers.RunRefusal.{RunRefusal}
 use Rattle.chart.specs.declared.answers.RunRefusal.TheVariants.{BadChart, ChartFull}
 use Rattle.chart.specs.Steps.{Stepped, stepped, IsStep}
 use Rattle.chart.specs.Calls.{chart_fits, opened, opened_chart, numbers_of, grow, thin, ask, did, said}
 use Rattle.chart.specs.Histories.{since_open, grown, thinned}
-use Rattle.chart.specs.Law.{Counts, Verdicts}
+use Rattle.chart.specs.Law.{Verdicts}
 use Rattle.naming.proofs.Reached.{finitely_many}
 use Rattle.chart_laws.proofs.Histories.{some_room}
 use Rattle.chart_laws.proofs.Keeping.{runs_keep}
 use Rattle.run.specs.declared.state.Run.{Run}
 use Rattle.run.specs.Openings.{NewRun, NoRun}
 use Rattle.judge.specs.declared.report.Report.{Report}
-use Rattle.judge.specs.declared.report.Report.TheVariants.{RunRefused, Judged}
-use Rattle.judge.specs.Reports.{Reported, reported, asked, after_thin, after_thin_by, after_grow, after_grow_by, judged}
+use Rattle.judge.specs.declared.report.Report.TheVariants.{RunRefused}
+use Rattle.judge.specs.Reports.{Reported, reported, asked, after_thin_by, after_grow, after_grow_by, judged}
 use Rattle.judge.specs.Verdicts.{VerdictRight, RunRight, JudgedRight}
 
 -- an answer tells the outcome

@@ -9,8 +9,8 @@ use Rattle.property_sheet.specs.Sheets.{read_property}
 use Rattle.chart.specs.declared.rows.Row.{Row}
 use Rattle.judge.specs.declared.report.Report.{Report}
 use Rattle.judge.specs.declared.report.Report.TheVariants.{DeviceRefused, PropertyRefused}
-use Rattle.judge.specs.Reports.{Reported, reported, judged, with_device, with_property, report_of}
-use Rattle.judge.specs.Verdicts.{JudgedRight, WithDevice, WithProperty, InputRight}
+use Rattle.judge.specs.Reports.{reported, judged, with_device, report_of}
+use Rattle.judge.specs.Verdicts.{JudgedRight, WithDevice, InputRight}
 
 module _ (input : List ℕ) (chart : List Row) (d p : List ℕ) (device : d ≡ device_part input) (property : p ≡ property_part input) where
   pub record TellsInput (r : Report) (after : List Row) : Type 0 where

@@ -1,5 +1,5 @@
 -- From the bytes of an input and a chart to the report: both sheets read, a run opened, grown, thinned and asked.
-use Rattle.std.specs.Prelude.{ℕ, ◌+◌, ◌*◌, Bool, cond, List, length, Ok, Err, Result}
+use Rattle.std.specs.Prelude.{ℕ, ◌+◌, ◌*◌, cond, List, length, Ok, Err, Result}
 use Rattle.device.specs.Meaning.{Meaning}
 use Rattle.sheet.specs.declared.faults.SheetFault.{SheetFault}
 use Rattle.sheet.specs.Inputs.{device_part, property_part}
@@ -13,7 +13,6 @@ use Rattle.chart.specs.declared.answers.RunRefusal.{RunRefusal}
 use Rattle.chart.specs.declared.answers.RunRefusal.TheVariants.{BadChart}
 use Rattle.chart.specs.Steps.{Stepped}
 use Rattle.chart.specs.Calls.{chart_fits, opened, opened_chart, numbers_of, grow, thin, ask}
-use Rattle.judge.specs.declared.report.Judgement.{Judgement}
 use Rattle.judge.specs.declared.report.Report.{Report}
 use Rattle.judge.specs.declared.report.Report.TheVariants.{DeviceRefused, PropertyRefused, RunRefused, Judged}
 

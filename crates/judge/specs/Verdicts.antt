@@ -11,11 +11,9 @@ use Rattle.semantics.specs.RationalTime.{rational_time, start_state}
 use Rattle.chart.specs.declared.rows.Row.{Row}
 use Rattle.chart.specs.declared.answers.Verdict.{Verdict}
 use Rattle.chart.specs.declared.answers.Verdict.TheVariants.{Yes, No, NotYet}
-use Rattle.chart.specs.declared.answers.RunRefusal.{RunRefusal}
 use Rattle.chart.specs.declared.answers.RunRefusal.TheVariants.{BadChart, ChartFull}
 use Rattle.chart.specs.Calls.{chart_fits}
 use Rattle.chart.specs.Law.{Counts}
-use Rattle.judge.specs.declared.report.Judgement.{Judgement}
 use Rattle.judge.specs.declared.report.Report.{Report}
 use Rattle.judge.specs.declared.report.Report.TheVariants.{DeviceRefused, PropertyRefused, RunRefused, Judged}
 

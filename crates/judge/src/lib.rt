@@ -1,4 +1,6 @@
 //! From the bytes of an input to the verdict.
+#![tactic(auto)]
+
 mod inputs;
 mod judging;
 mod lines;

@@ -1,4 +1,6 @@
 //! What small claims name: each of the ten kinds of line at a few places, one line for each claim.
+#![tactic(auto)]
+
 mod places;
 mod sheets;
 

@@ -1,4 +1,6 @@
 //! Two devices on one radio, as one device.
+#![tactic(auto)]
+
 mod answers;
 mod held;
 mod joints;

@@ -1,4 +1,5 @@
 //! Pairs of devices in words, pairs at the limits of devices, and rows that synchronisers refuse.
+#![tactic(auto)]
 
 mod limits;
 mod nested;

@@ -1,4 +1,6 @@
 //! A property in memory: its lines, its clocks and its largest constant.
+#![tactic(auto)]
+
 mod answers;
 mod checks;
 mod held;

@@ -1,5 +1,5 @@
 -- The test of a property's limits passes only if they hold, and passes what a sheet holds that was not refused.
-use Rattle.std.proofs.Common.{◌≡◌, ℕ, zero, suc, ◌+◌, ◌-◌, ◌*◌, ◌/◌, ◌<◌, ◌≤◌, true, cond, not, ◌&&◌, eqb, ltb, leb, List, [], ◌∷◌, ◌++◌, length, pos, Some, None, sym, refl, ap, ◌∙◌, add-zero, zero-add, add-one, arith, length-drop, length-take}
+use Rattle.std.proofs.Common.{◌≡◌, ℕ, zero, suc, ◌+◌, ◌*◌, ◌/◌, ◌<◌, ◌≤◌, true, cond, not, ◌&&◌, eqb, ltb, leb, List, [], ◌∷◌, ◌++◌, length, pos, Some, None, sym, refl, ap, ◌∙◌, add-zero, zero-add, add-one, arith, length-drop, length-take}
 use lib.Signed.{le_z}
 use Rattle.std.specs.List.{slice_get}
 use Rattle.std.proofs.lemmas.Bool.{and_parts, and_from, not-true, eqb-true, eqb-false, leb-true, ltb-true, lt-ltb, cond_both}

@@ -1,4 +1,6 @@
 //! The lines of a property, and what a property sheet means.
+#![tactic(auto)]
+
 use device::Condition;
 
 /// One line of a property. Numbers of lines are operands of others; a line may name any line.

@@ -1,5 +1,7 @@
 //! Clock regions of up to six clocks: classes of times and of differences, resets, successors and
 //! tests of conditions.
+#![tactic(auto)]
+
 mod classes;
 mod conditions;
 mod limits;

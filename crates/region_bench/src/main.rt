@@ -1,6 +1,8 @@
 //! Prints two walks of successors to where they rest. Then takes a region of six clocks through
 //! many successors, and prints how many they were with a sum over the classes met: run it under a
 //! clock to compare times.
+#![tactic(auto)]
+
 use region::{Region, Space};
 use std::io;
 

@@ -1,5 +1,7 @@
 //! What it means to satisfy a property: satisfiability relations over rational time and over
 //! places. Each function does nothing; its contract is the law.
+#![tactic(auto)]
+
 ghost use Rattle.semantics.specs.Agreement.{PlacesStandForStates, RefutationsAreSound};
 
 /// A state or a place that is refuted with a line is held with it by no satisfiability relation.

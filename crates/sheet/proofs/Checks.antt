@@ -1,6 +1,6 @@
 -- Laws of checks: one list of limits after another, and a loop over records.
-use Rattle.std.proofs.Common.{◌≡◌, ℕ, zero, suc, ◌+◌, ◌-◌, ◌<◌, ◌≤◌, Bool, true, false, cond, List, [], ◌∷◌, ◌++◌, Ok, Err, Result, sym, refl, ap, ◌∙◌, arith}
-use Rattle.sheet.specs.Limits.{Limit, limit, held_in, of_each, checked}
+use Rattle.std.proofs.Common.{◌≡◌, ℕ, suc, ◌+◌, ◌-◌, ◌<◌, ◌≤◌, Bool, true, false, cond, List, [], ◌∷◌, ◌++◌, Ok, Err, Result, refl, ap, ◌∙◌, arith}
+use Rattle.sheet.specs.Limits.{Limit, held_in, of_each, checked}
 
 -- the second check is made if the first passes
 abbrev pub and_then : {F : Type 0} → Result (Unit {0}) F → Result (Unit {0}) F → Result (Unit {0}) F

@@ -1,13 +1,13 @@
 -- A check of what both kinds of sheet share passes exactly if the named limits hold.
-use Rattle.std.proofs.Common.{◌≡◌, ℕ, ◌+◌, ◌*◌, ◌/◌, ◌%◌, ◌<◌, ◌≤◌, Bool, true, false, cond, not, ◌&&◌, ◌||◌, T, eqb, ltb, leb, ◌⊎◌, List, [], ◌∷◌, ◌++◌, length, ℤ, pos, ◌≤ℤ◌, sym, refl, ap, ◌∙◌, inl, inr, ⊎_elim, arith}
+use Rattle.std.proofs.Common.{◌≡◌, ℕ, ◌+◌, ◌*◌, ◌/◌, ◌%◌, ◌<◌, ◌≤◌, Bool, true, false, not, ◌&&◌, T, eqb, ltb, leb, ◌⊎◌, List, [], ◌∷◌, ◌++◌, length, ℤ, pos, ◌≤ℤ◌, refl, inl, inr, ⊎_elim, arith}
 use lib.Signed.{le_z, le_z_yes}
 use Rattle.std.proofs.lemmas.Bool.{and_parts, and_from, or_cases, or_left, or_right, not-true, not_from_false, eqb-true, eq-eqb, eqb-false, ne_eqb, leb-true, le-leb, ltb-true, lt-ltb}
 use Rattle.device.specs.Terms.{lowest}
 use Rattle.sheet.specs.Kinds.{SheetKind, RecordKind, Conditions, letter_of, size_of, least_of, most_of}
-use Rattle.sheet.specs.Faults.{SheetFault, DirectoryFault}
-use Rattle.sheet.specs.Limits.{Limit, limit, checked, of_each}
-use Rattle.sheet.specs.Layout.{byte_at, offset_of, extent_of, section_of, size_limit, letter_limit, counts_limits, edition_limits, header_limits, bounds_limits, count_limits, directory_limits}
-use Rattle.sheet.specs.Conditions.{term_at, constant_at, second_fits, constant_fits, condition_limits, conditions_limits}
+use Rattle.sheet.specs.Faults.{DirectoryFault}
+use Rattle.sheet.specs.Limits.{Limit}
+use Rattle.sheet.specs.Layout.{byte_at, offset_of, extent_of, section_of, size_limit, letter_limit, counts_limits, edition_limits, header_limits, bounds_limits, count_limits}
+use Rattle.sheet.specs.Conditions.{term_at, constant_at, second_fits, condition_limits, conditions_limits}
 use Rattle.sheet.specs.Fits.{ConditionFits, SheetFits}
 use Rattle.sheet.proofs.Passed.{Passed, AllKept, kept_from, passed_from, passed_both, passed_append, passed_each, passed_all}
 

@@ -1,6 +1,6 @@
 -- A check passes exactly if every limit is kept.
 use Rattle.std.proofs.Common.{◌≡◌, ℕ, zero, suc, ◌+◌, ◌<◌, ◌≤◌, Bool, true, false, cond, List, [], ◌∷◌, ◌++◌, Ok, Err, Result, sym, refl, ap, ◌∙◌, subst, arith}
-use Rattle.sheet.specs.Limits.{Limit, limit, held_in, of_each, checked}
+use Rattle.sheet.specs.Limits.{Limit, held_in, of_each, checked}
 use Rattle.sheet.proofs.Checks.{and_then, lifted, checked_append, checked_held, after_ok, held_ok}
 
 abbrev pub Passed : {F : Type 0} → List (Limit F) → Type 0

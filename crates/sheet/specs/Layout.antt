@@ -1,5 +1,5 @@
 -- Where things stand in a sheet, and the limits of its size, letter, header and directory.
-use Rattle.std.specs.Prelude.{ℕ, ◌+◌, ◌*◌, ◌/◌, ◌%◌, Bool, ◌&&◌, List, [], ◌∷◌, ◌++◌, length, take, drop, ◌==◌, nat_le, nat_lt, slice_index}
+use Rattle.std.specs.Prelude.{ℕ, ◌+◌, ◌*◌, ◌/◌, ◌%◌, ◌&&◌, List, [], ◌∷◌, ◌++◌, length, take, drop, ◌==◌, nat_le, nat_lt, slice_index}
 use Rattle.sheet.specs.Kinds.{SheetKind, Device, Property, RecordKind, letter_of, sections_of, size_of, least_of, most_of}
 use Rattle.sheet.specs.Faults.{SheetFault, Size, Letter, Header, DirectoryFault, Bounds, Count}
 use Rattle.sheet.specs.Limits.{Limit, limit}

@@ -1,5 +1,7 @@
 //! Sheets of bytes: their header, their directory of sections and their condition records, the
 //! faults of the three layers, and a reader that hands out the sections.
+#![tactic(auto)]
+
 mod conditions;
 mod faults;
 mod input;

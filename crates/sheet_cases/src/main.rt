@@ -1,4 +1,5 @@
 //! Sheets that are accepted, and sheets that are refused: one line for each case.
+#![tactic(auto)]
 
 mod changes;
 mod cuts;

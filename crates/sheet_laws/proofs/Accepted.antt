@@ -1,5 +1,5 @@
 -- A reading succeeds exactly if its check passes, and that exactly if the named limits hold.
-use Rattle.std.proofs.Common.{◌≡◌, ℕ, true, is_ok, Ok, Err, Result, refl, ap, ◌∙◌, arith}
+use Rattle.std.proofs.Common.{◌≡◌, ℕ, true, is_ok, Ok, Err, Result, refl, ap, arith}
 use Rattle.sheet.specs.Limits.{checked, read_if}
 use Rattle.device_sheet.specs.Sheets.{device_limits, sheet_meaning}
 use Rattle.device_sheet.proofs.Fitting.{device_fits_from, device_passed}

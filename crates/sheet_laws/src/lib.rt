@@ -1,5 +1,7 @@
 //! Laws of sheets: which are accepted, and which fault a refused one tells. Each function does
 //! nothing; its contract is the law.
+#![tactic(auto)]
+
 ghost use Rattle.sheet_laws.specs.Acceptance.{DeviceAcceptedExactly, PropertyAcceptedExactly};
 ghost use Rattle.sheet_laws.specs.Refusals.{DeviceRefusedFirst, PropertyRefusedFirst};
 

@@ -1,4 +1,6 @@
 //! A device that is told by a sheet: a table of edges and conditions, read where they stand.
+#![tactic(auto)]
+
 mod answers;
 mod edges;
 mod held;

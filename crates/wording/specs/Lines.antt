@@ -1,5 +1,5 @@
 -- A property in words: a line of its numbers, then its lines.
-use Rattle.std.specs.Prelude.{ℕ, List, [], ◌∷◌, ◌++◌, length, Some, None, codes, decimal, Option}
+use Rattle.std.specs.Prelude.{ℕ, List, [], ◌++◌, length, Some, None, codes, decimal, Option}
 use Rattle.std.specs.List.{slice_get}
 use Rattle.property_sheet.specs.declared.Line.{Line}
 use Rattle.property_sheet.specs.declared.Line.TheVariants.{True, False, Both, Either, SomeDelay, EveryDelay, SomeAction, EveryAction, Reset, Holds}

@@ -1,4 +1,6 @@
 //! Devices, properties and refusals in plain words.
+#![tactic(auto)]
+
 mod append;
 mod devices;
 mod lines;

@@ -1,10 +1,9 @@
-use Rattle.std.proofs.Common.{◌≡◌, List, ℕ, IfOk, string_bytes, Result, Ok, Err, sym, ap, ◌∙◌, subst}
+use Rattle.std.proofs.Common.{◌≡◌, List, ℕ, IfOk, string_bytes, Ok, Err, sym, ap, ◌∙◌, subst}
 use Rattle.sheet.specs.declared.kinds.SheetKind.TheVariants.{Device, Property}
 use Rattle.sheet.specs.declared.faults.SheetFault.{SheetFault}
 use Rattle.sheet.specs.Inputs.{device_part, property_part}
 use Rattle.device.specs.Meaning.{Meaning}
 use Rattle.device_sheet.specs.Sheets.{read_device}
-use Rattle.property_sheet.specs.Contents.{Content}
 use Rattle.property_sheet.specs.Sheets.{read_property}
 use Rattle.wording.specs.Refusals.{refusal_text}
 use Rattle.description.specs.Descriptions.{description, described}
@@ -19,8 +18,8 @@ property_refused : (b d p : List ℕ) (m : Meaning) (f : SheetFault) → d ≡ d
 property_refused b d p m f e r h s =
     sym
     (
-      ap (λ x. described x (read_property (property_part b))) (ap read_device (sym e) ∙ r)
-      ∙ ap (λ x. described (Ok m) x) (ap read_property (sym h) ∙ s)
+    ap (λ x. described x (read_property (property_part b))) (ap read_device (sym e) ∙ r)
+    ∙ ap (λ x. described (Ok m) x) (ap read_property (sym h) ∙ s)
     )
 
 pub returns-in-Err : goal.returns-in-Err

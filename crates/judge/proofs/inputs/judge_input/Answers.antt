@@ -1,6 +1,6 @@
 use Rattle.table.specs.Meanings.{meaning_of}
 use Rattle.property.specs.Contents.{content_of}
-use Rattle.judge.proofs.Sheets.{TellsInput, device_refused, property_refused, both_read}
+use Rattle.judge.proofs.Sheets.{device_refused, property_refused, both_read}
 use Rattle.judge.proofs.inputs.judge_input.Goals as goal
 
 pub returns-in-Err : goal.returns-in-Err

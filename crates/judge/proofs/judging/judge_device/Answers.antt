@@ -1,6 +1,6 @@
-use Rattle.std.proofs.Common.{◌≡◌, length, refl, arith}
+use Rattle.std.proofs.Common.{length, refl, arith}
 use Rattle.property.specs.Contents.{content_of}
-use Rattle.judge.proofs.Rightness.{Tells, open_refused, run_ended}
+use Rattle.judge.proofs.Rightness.{open_refused, run_ended}
 use Rattle.judge.proofs.judging.judge_device.Goals as goal
 
 pub returns-in-Err : goal.returns-in-Err

@@ -1,7 +1,7 @@
-use Rattle.std.proofs.Common.{◌≡◌, ℕ, List, ◌++◌, string_bytes, codes, ap, ◌∙◌}
+use Rattle.std.proofs.Common.{ℕ, List, ◌++◌, string_bytes, codes, ap, ◌∙◌}
 use Rattle.device.specs.Meaning.{condition_of}
 use Rattle.wording.specs.Texts.{texts}
-use Rattle.wording.specs.Devices.{clause_text, reset_text, ends_text, edge_line}
+use Rattle.wording.specs.Devices.{clause_text, reset_text, ends_text}
 use Rattle.wording.proofs.Loops.{four_added}
 use Rattle.wording.proofs.devices.add_edge.Goals as goal
 

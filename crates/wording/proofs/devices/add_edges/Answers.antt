@@ -1,4 +1,4 @@
-use Rattle.std.proofs.Common.{◌≡◌, ℕ, List, ◌++◌, string_bytes, ap, ◌∙◌, arith}
+use Rattle.std.proofs.Common.{◌++◌, string_bytes, ap, ◌∙◌, arith}
 use Rattle.wording.specs.Devices.{edge_line, edge_text}
 use Rattle.wording.proofs.Loops.{written_more, written_all}
 use Rattle.wording.proofs.devices.add_edges.Goals as goal

@@ -1,4 +1,4 @@
-use Rattle.std.proofs.Common.{◌≡◌, ℕ, List, ◌++◌, string_bytes, ap, ◌∙◌, arith}
+use Rattle.std.proofs.Common.{ℕ, List, ◌++◌, string_bytes, ap, ◌∙◌, arith}
 use Rattle.device.specs.Meaning.{condition_of}
 use Rattle.wording.specs.Devices.{clause_text}
 use Rattle.wording.proofs.Loops.{written_more, written_all}

@@ -1,4 +1,4 @@
-use Rattle.std.proofs.Common.{◌≡◌, ◌++◌, ap, ◌∙◌}
+use Rattle.std.proofs.Common.{◌++◌, ap, ◌∙◌}
 use Rattle.wording.specs.Texts.{texts}
 use Rattle.wording.specs.Devices.{numbers_text, edge_text}
 use Rattle.wording.proofs.devices.device_text.Goals as goal

@@ -1,4 +1,4 @@
-use Rattle.std.proofs.Common.{◌≡◌, ℕ, List, ◌++◌, string_bytes, ap, ◌∙◌, arith}
+use Rattle.std.proofs.Common.{ℕ, List, ◌++◌, string_bytes, ap, ◌∙◌, arith}
 use Rattle.std.specs.List.{slice_get}
 use Rattle.property.specs.Contents.{content_of}
 use Rattle.wording.specs.Lines.{numbered_text}

@@ -1,4 +1,4 @@
-use Rattle.std.proofs.Common.{◌≡◌, ◌+◌, ◌*◌, ◌≤◌, length, drop}
+use Rattle.std.proofs.Common.{◌≡◌, ◌+◌, ◌*◌, length, drop}
 use Rattle.sheet.specs.Limits.{checked}
 use Rattle.sheet.specs.Layout.{bounds_limits}
 use Rattle.sheet.proofs.reader.Reader.check_bounds.Given as goal

@@ -1,4 +1,4 @@
-use Rattle.std.proofs.Common.{◌≡◌, ◌+◌, ◌*◌, ◌≤◌, length, drop}
+use Rattle.std.proofs.Common.{◌≡◌, drop}
 use Rattle.sheet.specs.Limits.{checked}
 use Rattle.sheet.specs.Layout.{count_limits}
 use Rattle.sheet.proofs.reader.Reader.check_lengths.Given as goal

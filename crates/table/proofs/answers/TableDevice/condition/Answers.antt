@@ -1,4 +1,4 @@
-use Rattle.std.proofs.Common.{◌≡◌, ◌+◌, ◌/◌, ◌<◌, ◌≤◌, length, ap, ◌∙◌, arith}
+use Rattle.std.proofs.Common.{◌+◌, ◌/◌, ◌<◌, ◌≤◌, length, ap, ◌∙◌, arith}
 use Rattle.sheet.specs.Conditions.{condition_told}
 use Rattle.device_sheet.specs.Edges.{first_at, count_at}
 use Rattle.device_sheet.proofs.Lawfuls.{edge_at_fits}
