@@ -3,7 +3,7 @@
 
 usage: python3 tools/respell.py        at the top, after the kit's port.py and before any edit by hand
 
-Names are those that specs/ and proofs/ define (definitions, lemmas, fields, constructors). Names that a file imports from a library,
+Names are those that specs/ and proofs/ define (definitions, lemmas, fields, constructors), or give to what they import. Names that a file imports from a library,
 goals, and the steps of a proof's argument keep their spelling, and so do strings, inputs and outputs. In comments and pages a name is
 respelled where it stands between backticks. Where two names would fall together it says so, and writes nothing. It also says where the
 new spelling stands in a file already, as a function's name beside its definition's: those are to be looked at.
@@ -44,6 +44,8 @@ def own_names():
             m = HEAD.match(line)
             if m:
                 found.add(m.group(1))
+            if line.startswith(("use ", "pub use ")):
+                found |= set(re.findall(r" as (" + NAME + r")", line))
     return {n for n in found if re.fullmatch(NAME, n)}
 
 

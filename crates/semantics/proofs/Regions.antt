@@ -1,6 +1,6 @@
 -- The region carries rational time to places.
 use Rattle.std.proofs.Common.{◌≡◌, ℕ, ◌+◌, ◌≤◌, Bool, true, ◌↔◌, length, Some, None, Option, sym, refl, ap, ◌∙◌, subst, arith}
-use Rattle.std.specs.List.{AllByRecursion as All, slice_get}
+use Rattle.std.specs.List.{AllByRecursion, slice_get}
 use Rattle.device.specs.declared.Condition.{Condition}
 use Rattle.device.specs.declared.ClockSet.{ClockSet}
 use Rattle.device.specs.Meaning.{Meaning, Transition, Lawful}
@@ -60,8 +60,8 @@ module _ (m : Meaning) (s : Content) (device : Lawful m) (property : ContentLawf
 
   pub guard_agrees :
       (e : ℕ) (t : Transition) → m.edge_at e ≡ Some t → (v : Valuation) →
-      All (λ c. holds c v ≡ true) t.guard ↔
-      All (λ c. holds_in c (region_of (limit m s) (all_clocks m s) v) ≡ true) t.guard
+      AllByRecursion (λ c. holds c v ≡ true) t.guard ↔
+      AllByRecursion (λ c. holds_in c (region_of (limit m s) (all_clocks m s) v) ≡ true) t.guard
   guard_agrees e t there v =
       let f : Condition → Bool = λ c. holds c v in
       let g : Condition → Bool = λ c. holds_in c (region_of (limit m s) (all_clocks m s) v) in
