@@ -1,6 +1,6 @@
 pub mod Belows
 pub mod Rising
+mod Mapping
+mod Ranges
 mod Bounds
 pub mod Admitting
-mod Raises
-mod Resetting

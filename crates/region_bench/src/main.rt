@@ -34,9 +34,8 @@ impl Walk {
         if self.left > 0 && !space.is_resting(&self.region) {
             return Walk {
                 region: space.successor(&self.region),
-                clock: self.clock,
                 left: self.left - 1,
-                sum: self.sum,
+                ..self
             };
         }
         let region = self.region.reset(self.clock % 6);
@@ -52,28 +51,22 @@ impl Walk {
 
 // The sum with six classes more.
 fn mixed(sum: u32, clocks: [u8; 6]) -> u32 {
-    let mut sum = sum;
-    for class in clocks {
-        sum = sum.wrapping_mul(31).wrapping_add(class as u32);
-    }
-    sum
+    clocks.iter().fold(sum, |sum, class| {
+        sum.wrapping_mul(31).wrapping_add(u32::from(*class))
+    })
 }
 
 // The sum over so many successors.
 fn walked(space: Space, count: u32) -> u32 {
-    let mut walk = Walk::start();
-    for _ in 0..count {
-        walk = walk.step(space);
-    }
+    let walk = (0..count).fold(Walk::start(), |walk, _| walk.step(space));
     mixed(walk.sum, walk.region.clocks())
 }
 
 // Prints the classes of the clocks that are counted.
 fn print_classes(rt: HostRuntime, space: Space, region: Region) -> io::Result<()> {
-    for a in 0..space.clocks() {
-        if let Some(class) = region.clock(a) {
-            print!(rt; " {class}")?;
-        }
+    let classes = region.clocks();
+    for class in classes.iter().take(usize::from(space.clocks())) {
+        print!(rt; " {class}")?;
     }
     Ok(())
 }
