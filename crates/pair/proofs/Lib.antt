@@ -1,4 +1,3 @@
 mod Adding
-mod Fitting
 mod Telling
 mod Joining

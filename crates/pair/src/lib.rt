@@ -6,6 +6,7 @@ mod held;
 mod joints;
 mod refusals;
 mod rows;
+mod side;
 mod sides;
 mod synchroniser;
 

@@ -6,13 +6,13 @@ ghost use Rattle.pair.specs.Refusals.{number_of};
 #[derive(Clone, Copy, PartialEq, Eq, Debug)]
 pub enum PairRefusal {
     /// A row has a number above 16, two sides that stand still, or no result.
-    BadRow,
+    BadRow = 14,
     /// The synchroniser has a row for these two actions already.
-    ActionsTaken,
+    ActionsTaken = 15,
     /// The synchroniser has 32 rows.
-    SynchroniserFull,
+    SynchroniserFull = 16,
     /// The pair would pass a limit of devices.
-    PairTooLarge,
+    PairTooLarge = 17,
 }
 
 impl PairRefusal {
@@ -20,11 +20,6 @@ impl PairRefusal {
     pub fn number(self) -> u8
         ensures { result ≡ number_of self }
     {
-        match self {
-            PairRefusal::BadRow => 14,
-            PairRefusal::ActionsTaken => 15,
-            PairRefusal::SynchroniserFull => 16,
-            PairRefusal::PairTooLarge => 17,
-        }
+        self as u8
     }
 }

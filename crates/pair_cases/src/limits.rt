@@ -93,7 +93,7 @@ fn print_pairs<A: Device + Drop, B: Device + Drop, C: Device + Drop>(
     print_numbers(rt, &outer)
 }
 
-fn print_case(rt: &HostRuntime, case: Case) -> anyhow::Result<()> {
+fn print_case(rt: &HostRuntime, case: &Case) -> anyhow::Result<()> {
     rt.println(case.title)?;
     let [a, b, c] = case.sizes;
     let first = sheet_of(rt.alloc(), a)?;
@@ -118,8 +118,8 @@ fn print_conditions(rt: &HostRuntime) -> anyhow::Result<()> {
 
 /// Whether each pair fits, with its six numbers.
 pub(crate) fn print_limits(rt: &HostRuntime) -> anyhow::Result<()> {
-    for case in CASES.iter() {
-        print_case(rt, *case)?;
+    for case in &CASES {
+        print_case(rt, case)?;
     }
     print_conditions(rt)
 }

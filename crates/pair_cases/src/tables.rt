@@ -1,18 +1,19 @@
 //! Pairs of two tables in words.
-use super::rows::{Row, with_rows};
-use super::sheets::{DOOR, LAMP, NOTHING, bytes_of, table_of};
+use super::rows::{row, with_rows};
+use super::sheets::{DOOR, LAMP, NOTHING, table_of};
 use super::verdicts::Verdict;
 use device::Device;
 use pair::{Pair, Synchroniser};
+use pairing::SyncRow;
 use wording::device_text;
 
 // The sheets of two tables, and the rows that they go together by.
 #[derive(Clone, Copy)]
 struct Case {
     title: &'static str,
-    left: &'static [[u8; 4]],
-    right: &'static [[u8; 4]],
-    rows: &'static [Row],
+    left: &'static [u8],
+    right: &'static [u8],
+    rows: &'static [SyncRow],
 }
 
 const CASES: [Case; 9] = [
@@ -21,36 +22,36 @@ const CASES: [Case; 9] = [
         left: &DOOR,
         right: &LAMP,
         rows: &[
-            Row(1, 1, 5),
-            Row(2, 0, 6),
-            Row(0, 3, 7),
-            Row(2, 3, 8),
-            Row(2, 16, 16),
+            row!(1, 1, 5),
+            row!(2, 0, 6),
+            row!(0, 3, 7),
+            row!(2, 3, 8),
+            row!(2, 16, 16),
         ],
     },
     Case {
         title: "lamp and door",
         left: &LAMP,
         right: &DOOR,
-        rows: &[Row(1, 1, 5), Row(3, 0, 1), Row(0, 2, 2), Row(16, 2, 3)],
+        rows: &[row!(1, 1, 5), row!(3, 0, 1), row!(0, 2, 2), row!(16, 2, 3)],
     },
     Case {
         title: "door and door",
         left: &DOOR,
         right: &DOOR,
-        rows: &[Row(1, 2, 1), Row(2, 1, 2), Row(2, 2, 3)],
+        rows: &[row!(1, 2, 1), row!(2, 1, 2), row!(2, 2, 3)],
     },
     Case {
         title: "door stands still, lamp moves",
         left: &DOOR,
         right: &LAMP,
-        rows: &[Row(0, 1, 1), Row(0, 3, 3), Row(0, 16, 16)],
+        rows: &[row!(0, 1, 1), row!(0, 3, 3), row!(0, 16, 16)],
     },
     Case {
         title: "door moves, lamp stands still",
         left: &DOOR,
         right: &LAMP,
-        rows: &[Row(1, 0, 1), Row(2, 0, 2)],
+        rows: &[row!(1, 0, 1), row!(2, 0, 2)],
     },
     Case {
         title: "door and lamp, no rows",
@@ -62,19 +63,19 @@ const CASES: [Case; 9] = [
         title: "nothing and lamp",
         left: &NOTHING,
         right: &LAMP,
-        rows: &[Row(0, 1, 1), Row(0, 3, 2), Row(1, 16, 3)],
+        rows: &[row!(0, 1, 1), row!(0, 3, 2), row!(1, 16, 3)],
     },
     Case {
         title: "door and nothing",
         left: &DOOR,
         right: &NOTHING,
-        rows: &[Row(1, 0, 1), Row(2, 0, 2), Row(1, 1, 3)],
+        rows: &[row!(1, 0, 1), row!(2, 0, 2), row!(1, 1, 3)],
     },
     Case {
         title: "nothing and nothing",
         left: &NOTHING,
         right: &NOTHING,
-        rows: &[Row(1, 1, 1), Row(1, 0, 2), Row(0, 1, 3)],
+        rows: &[row!(1, 1, 1), row!(1, 0, 2), row!(0, 1, 3)],
     },
 ];
 
@@ -98,22 +99,20 @@ pub(crate) fn print_pair<L: Device + Drop, R: Device + Drop>(
     print_text(rt, &pair)
 }
 
-fn print_case(rt: &HostRuntime, case: Case) -> anyhow::Result<()> {
-    let left = bytes_of(rt.alloc(), case.left)?;
-    let right = bytes_of(rt.alloc(), case.right)?;
+fn print_case(rt: &HostRuntime, case: &Case) -> anyhow::Result<()> {
     print_pair(
         rt,
         case.title,
-        table_of(left.as_slice()),
-        table_of(right.as_slice()),
-        with_rows(case.rows),
+        table_of(case.left),
+        table_of(case.right),
+        with_rows(case.rows)?,
     )
 }
 
 /// The text of each pair.
 pub(crate) fn print_tables(rt: &HostRuntime) -> anyhow::Result<()> {
-    for case in CASES.iter() {
-        print_case(rt, *case)?;
+    for case in &CASES {
+        print_case(rt, case)?;
     }
     Ok(())
 }
