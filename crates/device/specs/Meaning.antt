@@ -98,5 +98,5 @@ idle_lawful n h = record {
   most = h;
   edges = omega arith;
   past = λ e g. refl;
-  transitions = λ e t eq. let z : ◌≡◌ {A = ℕ} 0 1 = cc in absurd (omega arith);
+  transitions = λ e t eq. absurd (cc);
 }

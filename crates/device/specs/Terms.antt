@@ -1,7 +1,8 @@
 -- Relations, terms, conditions and sets of clocks: their numbers in sheets and their limits.
-use Rattle.std.specs.Prelude.{ℕ, ◌+◌, ◌/◌, ◌%◌, ◌^◌, ◌<◌, Bool, false, cond, ◌&&◌, ℤ, pos, neg_ℤ, ◌≤ℤ◌, ◌==◌, ◌≢◌, nat_lt}
+use Rattle.std.specs.Prelude.{ℕ, ◌+◌, ◌/◌, ◌%◌, ◌^◌, ◌<◌, Bool, false, cond, ◌&&◌, ℤ, pos, neg_ℤ, ◌≤ℤ◌, Ok, Err, Result, ◌==◌, ◌≢◌, nat_le, nat_lt}
 pub use Rattle.device.specs.declared.Relation.{Relation}
 pub use Rattle.device.specs.declared.Relation.TheVariants.{Less, AtMost, Equal, AtLeast, Greater}
+pub use Rattle.device.specs.declared.UnknownRelation.{UnknownRelation}
 pub use Rattle.device.specs.declared.Term.{Term}
 pub use Rattle.device.specs.declared.Term.TheVariants.{Clock, Difference}
 pub use Rattle.device.specs.declared.Condition.{Condition}
@@ -11,6 +12,10 @@ pub use Rattle.device.specs.declared.ClockSet.{ClockSet}
 abbrev pub relation_of : ℕ → Relation
 relation_of n =
     cond (n == 0) Less (cond (n == 1) AtMost (cond (n == 2) Equal (cond (n == 3) AtLeast Greater)))
+
+-- the relation with a number, or an error with a number that no relation has
+abbrev pub relation_numbered : ℕ → Result Relation UnknownRelation
+relation_numbered n = cond (nat_le n 4) (Ok (relation_of n)) (Err (record { 0 = n }))
 
 -- clock c is in the set: bit c is 1; sets have eight bits
 abbrev pub has_clock : ℕ → ℕ → Bool

@@ -3,7 +3,7 @@
 
 ghost use Rattle.std.specs.Prelude.{◌≡◌, if◌then◌else◌, Some, None};
 ghost use Rattle.device.specs.Meaning.{Meaning, Lawful, number_of, edge_of, condition_of};
-ghost use Rattle.device.specs.Terms.{has_clock, numbers_fit, renumbered, renumbered_term};
+ghost use Rattle.device.specs.Terms.{has_clock, numbers_fit, relation_numbered, renumbered, renumbered_term};
 
 /// How a condition compares: `<`, `<=`, `=`, `>=` and `>`, numbered 0 to 4 in sheets.
 #[derive(Clone, Copy, PartialEq, Eq, Debug)]
@@ -13,6 +13,27 @@ pub enum Relation {
     Equal,
     AtLeast,
     Greater,
+}
+
+/// A number that no relation has.
+#[derive(Clone, Copy, PartialEq, Eq, Debug)]
+pub struct UnknownRelation(pub u8);
+
+impl TryFrom<u8> for Relation {
+    type Error = UnknownRelation;
+
+    ghost try_from_gives = { λ n r. r ≡ relation_numbered n };
+
+    fn try_from(number: u8) -> Result<Relation, UnknownRelation> {
+        match number {
+            0 => Ok(Relation::Less),
+            1 => Ok(Relation::AtMost),
+            2 => Ok(Relation::Equal),
+            3 => Ok(Relation::AtLeast),
+            4 => Ok(Relation::Greater),
+            _ => Err(UnknownRelation(number)),
+        }
+    }
 }
 
 /// What a condition compares with its constant: a clock, or the first clock minus the second.
@@ -50,11 +71,9 @@ impl Condition {
     pub fn renumbered(self, by: u8) -> Option<Condition>
         ensures { result ≡ (if numbers_fit by self.term then Some (renumbered by self) else None) }
     {
-        let term = self.term.renumbered(by)?;
         Some(Condition {
-            term,
-            relation: self.relation,
-            constant: self.constant,
+            term: self.term.renumbered(by)?,
+            ..self
         })
     }
 }

@@ -18,7 +18,7 @@ use Rattle.device_sheet.proofs.Fitting.{edge_fits_from, edge_passed}
 
 ok_from : (r : Result (Unit {0}) RecordFault) → is_ok r ≡ true → r ≡ Ok tt
 ok_from (Ok u) e = refl
-ok_from (Err f) e = let z : ◌≡◌ {A = ℕ} 0 1 = cc in absurd (omega arith)
+ok_from (Err f) e = absurd (cc)
 
 module _ (n s c k : ℕ) (es cs : List ℕ) (numbers : NumbersFit n s c k) (few : length es / 8 ≤ 256) (fit : records_fit n c k es cs ≡ true) where
   abbrev me : Meaning
@@ -58,7 +58,7 @@ module _ (n s c k : ℕ) (es cs : List ℕ) (numbers : NumbersFit n s c k) (few 
   transitions : (e : ℕ) (x : Transition) (t : Bool) → ltb e (length es / 8) ≡ t → cond t (Some (transition_at es cs e)) None ≡ Some x → TransitionLawful me x
   transitions e x true test eq =
       let same : transition_at es cs e ≡ x = cc in subst (TransitionLawful me) same (transition_lawful e (ltb-true e (length es / 8) test))
-  transitions e x false test eq = let z : ◌≡◌ {A = ℕ} 0 1 = cc in absurd (omega arith)
+  transitions e x false test eq = absurd (cc)
 
   pub table_lawful : Lawful (table_meaning n s c k es cs)
   table_lawful = record {

@@ -3,6 +3,7 @@ use Rattle.std.specs.Prelude.{ℕ, ◌+◌, ◌*◌, ◌^◌, ◌&&◌, List, []
 use Rattle.device.specs.Meaning.{Transition}
 use Rattle.sheet.specs.declared.faults.RecordFault.{RecordFault}
 use Rattle.sheet.specs.declared.kinds.RecordKind.TheVariants.{Edges}
+use Rattle.sheet.specs.Faults.{record_fault}
 use Rattle.sheet.specs.Layout.{byte_at, word_at}
 use Rattle.sheet.specs.Limits.{Limit, limit}
 use Rattle.sheet.specs.Conditions.{conditions_from}
@@ -40,7 +41,7 @@ transition_at es cs e = record {
 }
 
 abbrev pub edge_fault : ℕ → RecordFault
-edge_fault p = record { kind = Edges; place = p }
+edge_fault p = record_fault Edges p
 
 -- 7: the limits of edge e over n nodes, c clocks and m conditions, in a section that begins at byte `at`
 abbrev pub edge_limits : ℕ → ℕ → ℕ → List ℕ → ℕ → ℕ → List (Limit RecordFault)

@@ -1,15 +1,13 @@
 -- Reading a device sheet: its limits in the order of checking, and what it means if all are kept.
-use Rattle.std.specs.Prelude.{ℕ, ◌/◌, cond, List, ◌++◌, length, Some, None, Result, nat_lt}
+use Rattle.std.specs.Prelude.{ℕ, ◌/◌, cond, List, length, Some, None, Result, nat_lt}
 use Rattle.device.specs.Meaning.{Meaning}
 use Rattle.sheet.specs.declared.faults.RecordFault.{RecordFault}
 use Rattle.sheet.specs.declared.faults.DirectoryFault.{DirectoryFault}
-use Rattle.sheet.specs.declared.faults.DirectoryFault.TheVariants.{InRecord}
 use Rattle.sheet.specs.declared.faults.SheetFault.{SheetFault}
-use Rattle.sheet.specs.declared.faults.SheetFault.TheVariants.{InDirectory}
 use Rattle.sheet.specs.declared.kinds.SheetKind.TheVariants.{Device}
-use Rattle.sheet.specs.Layout.{byte_at, offset_of, section_of, header_limits, directory_limits}
-use Rattle.sheet.specs.Limits.{Limit, held_in, of_each, checked, read_if}
-use Rattle.sheet.specs.Conditions.{conditions_limits}
+use Rattle.sheet.specs.Layout.{byte_at, offset_of, section_of}
+use Rattle.sheet.specs.Limits.{Limit, of_each, checked, read_if}
+use Rattle.sheet.specs.Sheets.{sections_limits as sections_limits_of, sheet_limits}
 use Rattle.device_sheet.specs.Edges.{transition_at, edge_limits}
 
 -- the limits of every edge
@@ -21,10 +19,10 @@ edges_limits b =
 
 -- the directory with its records, and the whole sheet
 abbrev pub sections_limits : List ℕ → List (Limit DirectoryFault)
-sections_limits b = directory_limits Device b ++ held_in InRecord (conditions_limits b ++ edges_limits b)
+sections_limits b = sections_limits_of Device edges_limits b
 
 abbrev pub device_limits : List ℕ → List (Limit SheetFault)
-device_limits b = header_limits Device b ++ held_in InDirectory (sections_limits b)
+device_limits b = sheet_limits Device edges_limits b
 
 -- a device of n nodes that starts at s, with c clocks, constants up to k, and these edges and conditions;
 -- every table tells 8 as its most conditions

@@ -5,11 +5,11 @@ use Rattle.sheet.proofs.Passed.{Passed}
 use Rattle.property_sheet.specs.declared.Line.{Line}
 use Rattle.property_sheet.specs.declared.Line.TheVariants.{True}
 use Rattle.property_sheet.specs.Contents.{content_fits}
-use Rattle.property_sheet.specs.Records.{kind_at, number_at, lines_from}
+use Rattle.property_sheet.specs.Records.{lines_from}
 use Rattle.property_sheet.specs.Sheets.{property_limits, sheet_content}
 use Rattle.property_sheet.proofs.Fitting.{property_fits_from}
 use Rattle.property_sheet.proofs.Contents.{always_fits, length_section, sheet_content_fits}
-use Rattle.property.specs.Parts.{content_with}
+use Rattle.property.specs.Parts.{content_with, LineReadable}
 
 -- the first line of a new property
 pub always_held : (before after : List Line) → before ≡ [] → after ≡ before ++ True ∷ [] → content_fits (content_with after 0 0) ≡ true
@@ -19,7 +19,7 @@ always_held before after none pushed =
 -- at most 200 lines, and each condition that a line names is there
 pub record Readable (ls cs : List ℕ) : Type 0 where
   pub few : length ls / 4 ≤ 200
-  pub each : (k : ℕ) → k < length ls / 4 → 9 ≤ kind_at ls k → number_at ls k < length cs / 4
+  pub each : (k : ℕ) → k < length ls / 4 → LineReadable (length cs / 4) ls k
 
 module _ (b : List ℕ) (passed : Passed (property_limits b)) where
   sections_readable : Readable (section_of b 0) (section_of b 1)
@@ -27,7 +27,7 @@ module _ (b : List ℕ) (passed : Passed (property_limits b)) where
       let f = property_fits_from b passed in
       record {
         few = omega (arith, f.lines_most, length_section b 0 f.sheet.records_end);
-        each = λ k lt high. (f.lines k lt).condition (omega (arith, (f.lines k lt).kind));
+        each = λ k lt. ((f.lines k lt).kind, (f.lines k lt).condition);
       }
 
   module _ (ls cs : List ℕ) (records : ls ≡ section_of b 0) (conditions : cs ≡ section_of b 1) where

@@ -1,3 +1,2 @@
-mod Layers
-mod Places
+mod Cut
 mod Filled

@@ -7,19 +7,12 @@ ghost use Rattle.property.specs.Contents.{content_of};
 use super::held::Property;
 use property_sheet::Line;
 
-// The line at an index of a list of lines.
-fn line_at(lines: &[Line], index: usize) -> Option<Line>
-    ensures { result ≡ slice_get lines.now index }
-{
-    lines.get(index).copied()
-}
-
 impl Property {
     /// The line with this number; none past the last.
     pub fn line(&self, number: u8) -> Option<Line>
         ensures { result ≡ slice_get (content_of self.now).lines number }
     {
-        line_at(self.lines.as_slice(), usize::from(number))
+        self.lines.get(usize::from(number)).copied()
     }
 
     /// How many lines there are.

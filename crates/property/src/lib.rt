@@ -2,7 +2,6 @@
 #![tactic(auto)]
 
 mod answers;
-mod checks;
 mod held;
 mod lines;
 mod load;

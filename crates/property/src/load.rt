@@ -7,11 +7,10 @@ ghost use Rattle.property_sheet.specs.Contents.{always};
 ghost use Rattle.property_sheet.specs.Sheets.{property_limits, sheet_content, read_property};
 ghost use Rattle.property.specs.Contents.{content_of};
 
-use super::checks::check_sheet;
 use super::held::Property;
-use super::lines::fill_lines;
+use super::lines::{LineRules, fill_lines};
 use property_sheet::Line;
-use sheet::{Reader, SheetFault, SheetKind};
+use sheet::{Reader, SheetFault, SheetKind, check_sheet};
 use std::alloc::{AllocError, Global};
 
 /// The most lines that a property has.
@@ -48,9 +47,8 @@ impl Property {
         ensures read { MatchResult result (λ _. read_property sheet.now ≡ Ok (content_of self.new)) (λ f. (read_property sheet.now ≡ Err f) × (self.new ≡ self.old)) }
         ensures limits { MatchResult result (λ _. PropertyFits sheet.now) (λ f. ToldFirst (property_limits sheet.now) f) }
     {
-        let reader = Reader::new(sheet, SheetKind::Property);
-        check_sheet(&reader)?;
-        self.fill(&reader);
+        check_sheet::<LineRules>(sheet)?;
+        self.fill(&Reader::new(sheet, SheetKind::Property));
         Ok(())
     }
 }

@@ -1,9 +1,10 @@
 -- The test of a property's limits passes only if they hold, and passes what a sheet holds that was not refused.
-use Rattle.std.proofs.Common.{◌≡◌, ℕ, zero, suc, ◌+◌, ◌*◌, ◌/◌, ◌<◌, ◌≤◌, true, cond, not, ◌&&◌, eqb, ltb, leb, List, [], ◌∷◌, ◌++◌, length, pos, Some, None, sym, refl, ap, ◌∙◌, add-zero, zero-add, add-one, arith, length-drop, length-take}
+use Rattle.std.proofs.Common.{◌≡◌, ℕ, zero, suc, ◌+◌, ◌*◌, ◌/◌, ◌<◌, ◌≤◌, true, cond, not, ◌&&◌, eqb, ltb, leb, List, [], ◌∷◌, ◌++◌, length, pos, Some, sym, refl, ap, ◌∙◌, add-zero, zero-add, add-one, arith, length-drop, length-take}
 use lib.Signed.{le_z}
 use Rattle.std.specs.List.{slice_get}
 use Rattle.std.proofs.lemmas.Bool.{and_parts, and_from, not-true, eqb-true, eqb-false, leb-true, ltb-true, lt-ltb, cond_both}
 use Rattle.std.proofs.lemmas.Bool.Decides.{nat_tests}
+use Rattle.std.proofs.lemmas.Option.{none-some}
 use Rattle.device.specs.declared.Term.{Term}
 use Rattle.device.specs.declared.Term.TheVariants.{Clock, Difference}
 use Rattle.device.specs.declared.Condition.{Condition}
@@ -59,11 +60,8 @@ module _ (n c k : ℕ) where
   line_lawful (Reset x p) e = reset_then x p e
   line_lawful (Holds t) e = condition_lawful t e
 
-  none_at : {l : Line} → None ≡ Some l → ⊥
-  none_at e = let z : ◌≡◌ {A = ℕ} 0 1 = cc in omega arith
-
   line_passes : (ls : List Line) (p : ℕ) (l : Line) → lines_fit_test n c k ls ≡ true → slice_get ls p ≡ Some l → line_fits_test n c k l ≡ true
-  line_passes [] p l e at = absurd (none_at at)
+  line_passes [] p l e at = absurd (none-some l at)
   line_passes (x ∷ xs) zero l e at =
       let same : x ≡ l = cc in
       ap (line_fits_test n c k) (sym same) ∙ (and_parts (line_fits_test n c k x) (lines_fit_test n c k xs) e).0

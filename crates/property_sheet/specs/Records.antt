@@ -3,6 +3,7 @@ use Rattle.std.specs.Prelude.{ℕ, zero, suc, ◌+◌, ◌*◌, Bool, true, cond
 use Rattle.device.specs.declared.Condition.{Condition}
 use Rattle.sheet.specs.declared.faults.RecordFault.{RecordFault}
 use Rattle.sheet.specs.declared.kinds.RecordKind.TheVariants.{Lines}
+use Rattle.sheet.specs.Faults.{record_fault}
 use Rattle.sheet.specs.Layout.{byte_at, word_at}
 use Rattle.sheet.specs.Limits.{Limit, limit}
 use Rattle.sheet.specs.Conditions.{condition_at}
@@ -48,7 +49,7 @@ lines_from ls cs k zero = []
 lines_from ls cs k (suc n) = line_at ls cs k ∷ lines_from ls cs (k + 1) n
 
 abbrev pub line_fault : ℕ → RecordFault
-line_fault p = record { kind = Lines; place = p }
+line_fault p = record_fault Lines p
 
 -- the first operand: nothing, a line, an action, a clock, or a condition's number
 abbrev pub first_fits : ℕ → ℕ → ℕ → ℕ → ℕ → ℕ → Bool

@@ -1,14 +1,12 @@
 -- Reading a property sheet: its limits in the order of checking, and what it holds if all are kept.
-use Rattle.std.specs.Prelude.{ℕ, ◌/◌, List, ◌++◌, length, Result}
+use Rattle.std.specs.Prelude.{ℕ, ◌/◌, List, length, Result}
 use Rattle.sheet.specs.declared.faults.RecordFault.{RecordFault}
 use Rattle.sheet.specs.declared.faults.DirectoryFault.{DirectoryFault}
-use Rattle.sheet.specs.declared.faults.DirectoryFault.TheVariants.{InRecord}
 use Rattle.sheet.specs.declared.faults.SheetFault.{SheetFault}
-use Rattle.sheet.specs.declared.faults.SheetFault.TheVariants.{InDirectory}
 use Rattle.sheet.specs.declared.kinds.SheetKind.TheVariants.{Property}
-use Rattle.sheet.specs.Layout.{byte_at, offset_of, section_of, header_limits, directory_limits}
-use Rattle.sheet.specs.Limits.{Limit, held_in, of_each, checked, read_if}
-use Rattle.sheet.specs.Conditions.{conditions_limits}
+use Rattle.sheet.specs.Layout.{byte_at, offset_of, section_of}
+use Rattle.sheet.specs.Limits.{Limit, of_each, checked, read_if}
+use Rattle.sheet.specs.Sheets.{sections_limits as sections_limits_of, sheet_limits}
 use Rattle.property_sheet.specs.Contents.{Content}
 use Rattle.property_sheet.specs.Records.{lines_from, line_limits}
 
@@ -21,10 +19,10 @@ lines_limits b =
 
 -- the directory with its records, and the whole sheet
 abbrev pub sections_limits : List ℕ → List (Limit DirectoryFault)
-sections_limits b = directory_limits Property b ++ held_in InRecord (conditions_limits b ++ lines_limits b)
+sections_limits b = sections_limits_of Property lines_limits b
 
 abbrev pub property_limits : List ℕ → List (Limit SheetFault)
-property_limits b = header_limits Property b ++ held_in InDirectory (sections_limits b)
+property_limits b = sheet_limits Property lines_limits b
 
 abbrev pub sheet_content : List ℕ → Content
 sheet_content b = record {

@@ -1,5 +1,5 @@
 -- Laws of checks: one list of limits after another, and a loop over records.
-use Rattle.std.proofs.Common.{◌≡◌, ℕ, suc, ◌+◌, ◌-◌, ◌<◌, ◌≤◌, Bool, true, false, cond, List, [], ◌∷◌, ◌++◌, Ok, Err, Result, refl, ap, ◌∙◌, arith}
+use Rattle.std.proofs.Common.{◌≡◌, ℕ, suc, ◌+◌, ◌-◌, ◌<◌, Bool, true, false, cond, List, [], ◌∷◌, ◌++◌, Ok, Err, Result, refl, ap, ◌∙◌, arith}
 use Rattle.sheet.specs.Limits.{Limit, held_in, of_each, checked}
 
 -- the second check is made if the first passes
@@ -46,9 +46,6 @@ module _ {F : Type 0} (limits : ℕ → List (Limit F)) (n k : ℕ) (left : Left
   pub stops : (f : F) → k < n → checked (limits k) ≡ Err f → checked (of_each limits 0 n) ≡ Err f
   stops f h failed =
       one_more (n - (k + 1)) (omega arith) ∙ ap (λ r. and_then r (checked (of_each limits (k + 1) (n - (k + 1))))) failed
-
-  pub ends : n ≤ k → checked (of_each limits 0 n) ≡ Ok tt
-  ends h = let e : n - k ≡ 0 = omega arith in left ∙ ap (λ j. checked (of_each limits k j)) e
 
 -- one list of limits after another, and a list of the layer below
 module _ {F : Type 0} (xs ys : List (Limit F)) where

@@ -1,6 +1,5 @@
+pub mod Chunks
 pub mod Checks
-pub mod Clipped
-pub mod Directories
 pub mod Passed
 pub mod Fitting
 pub mod Records

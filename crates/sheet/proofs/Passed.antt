@@ -8,15 +8,15 @@ Passed ls = checked ls ≡ Ok tt
 
 cond_parts : {F : Type 0} (b : Bool) (r : Result (Unit {0}) F) (f : F) → cond b r (Err f) ≡ Ok tt → (b ≡ true) × (r ≡ Ok tt)
 cond_parts true r f e = (refl, e)
-cond_parts false r f e = let z : ◌≡◌ {A = ℕ} 0 1 = cc in absurd (omega arith)
+cond_parts false r f e = absurd (cc)
 
 then_parts : {F : Type 0} (r s : Result (Unit {0}) F) → and_then r s ≡ Ok tt → (r ≡ Ok tt) × (s ≡ Ok tt)
 then_parts (Ok u) s e = (refl, e)
-then_parts (Err f) s e = let z : ◌≡◌ {A = ℕ} 0 1 = cc in absurd (omega arith)
+then_parts (Err f) s e = absurd (cc)
 
 lifted_parts : {F G : Type 0} (g : F → G) (r : Result (Unit {0}) F) → lifted g r ≡ Ok tt → r ≡ Ok tt
 lifted_parts g (Ok u) e = refl
-lifted_parts g (Err f) e = let z : ◌≡◌ {A = ℕ} 0 1 = cc in absurd (omega arith)
+lifted_parts g (Err f) e = absurd (cc)
 
 -- one limit more
 pub passed_parts : {F : Type 0} (l : Limit F) (ls : List (Limit F)) → Passed (l ∷ ls) → (l.kept ≡ true) × Passed ls

@@ -24,7 +24,7 @@ module _ (n c : ℕ) (cs : List ℕ) where
 
   -- some conditions of a section, in a row
   pub conditions_lawful : (k count i : ℕ) (x : Condition) → ((j : ℕ) → j < k + count → ConditionFits n c cs j) → slice_get (conditions_from cs k count) i ≡ Some x → ConditionLawful n c x
-  conditions_lawful k zero i x all eq = let z : ◌≡◌ {A = ℕ} 0 1 = cc in absurd (omega arith)
+  conditions_lawful k zero i x all eq = absurd (cc)
   conditions_lawful k (suc count) zero x all eq =
       let same : condition_at cs k ≡ x = cc in subst (ConditionLawful n c) same (condition_lawful k (all k (omega arith)))
   conditions_lawful k (suc count) (suc i) x all eq = conditions_lawful (k + 1) count i x (λ j h. all j (omega arith)) eq

@@ -7,7 +7,7 @@ use Rattle.device.specs.declared.Term.{Term}
 use Rattle.device.specs.declared.Term.TheVariants.{Clock, Difference}
 use Rattle.device.specs.Terms.{relation_of, lowest}
 use Rattle.sheet.specs.Kinds.{Conditions}
-use Rattle.sheet.specs.Faults.{RecordFault}
+use Rattle.sheet.specs.Faults.{RecordFault, record_fault}
 use Rattle.sheet.specs.Limits.{Limit, limit, of_each}
 use Rattle.sheet.specs.Layout.{byte_at, offset_of, section_of}
 
@@ -39,7 +39,7 @@ conditions_from cs k zero = []
 conditions_from cs k (suc n) = condition_at cs k ∷ conditions_from cs (k + 1) n
 
 abbrev pub condition_fault : ℕ → RecordFault
-condition_fault p = record { kind = Conditions; place = p }
+condition_fault p = record_fault Conditions p
 
 -- 6: the limits of record k over n clocks with constants up to c, in a section that begins at byte `at`
 abbrev pub second_fits : ℕ → ℕ → ℕ → Bool

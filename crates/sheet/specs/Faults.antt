@@ -27,6 +27,10 @@ record_refusal Conditions = BadCondition
 record_refusal Edges = BadEdge
 record_refusal Lines = BadLine
 
+-- a fault of a record: a field that begins at byte p
+abbrev pub record_fault : RecordKind → ℕ → RecordFault
+record_fault k p = record { kind = k; place = p }
+
 abbrev pub refusal_of : SheetFault → Refusal
 refusal_of Size = BadSize
 refusal_of Letter = BadLetter

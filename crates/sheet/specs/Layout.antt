@@ -1,5 +1,5 @@
 -- Where things stand in a sheet, and the limits of its size, letter, header and directory.
-use Rattle.std.specs.Prelude.{ℕ, ◌+◌, ◌*◌, ◌/◌, ◌%◌, ◌&&◌, List, [], ◌∷◌, ◌++◌, length, take, drop, ◌==◌, nat_le, nat_lt, slice_index}
+use Rattle.std.specs.Prelude.{ℕ, Bool, ◌+◌, ◌*◌, ◌/◌, ◌%◌, ◌&&◌, List, [], ◌∷◌, ◌++◌, length, take, drop, ◌==◌, nat_le, nat_lt, slice_index}
 use Rattle.sheet.specs.Kinds.{SheetKind, Device, Property, RecordKind, letter_of, sections_of, size_of, least_of, most_of}
 use Rattle.sheet.specs.Faults.{SheetFault, Size, Letter, Header, DirectoryFault, Bounds, Count}
 use Rattle.sheet.specs.Limits.{Limit, limit}
@@ -58,12 +58,13 @@ bounds_limits b i floor (r ∷ rs) =
     limit (nat_le floor (offset_of b i) && nat_le (offset_of b i + extent_of b i) (length b)) (Bounds (8 + 4 * i)) ∷
     bounds_limits b (i + 1) (offset_of b i + extent_of b i) rs
 
+-- n bytes are a whole number of records, as many as there may be
+abbrev pub count_fits : RecordKind → ℕ → Bool
+count_fits r n = n % size_of r == 0 && (nat_le (least_of r) (n / size_of r) && nat_le (n / size_of r) (most_of r))
+
 -- 5: section i and those after it are whole numbers of records, as many as they may be
 abbrev pub count_limit : List ℕ → ℕ → RecordKind → Limit DirectoryFault
-count_limit b i r =
-    limit
-    (extent_of b i % size_of r == 0 && (nat_le (least_of r) (extent_of b i / size_of r) && nat_le (extent_of b i / size_of r) (most_of r)))
-    (Count (10 + 4 * i))
+count_limit b i r = limit (count_fits r (extent_of b i)) (Count (10 + 4 * i))
 
 abbrev pub count_limits : List ℕ → ℕ → List RecordKind → List (Limit DirectoryFault)
 count_limits b i [] = []

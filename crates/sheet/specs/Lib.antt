@@ -3,6 +3,7 @@ pub mod Faults
 pub mod Limits
 pub mod Layout
 pub mod Conditions
+pub mod Sheets
 pub mod Inputs
 pub mod Fits
 pub mod Order

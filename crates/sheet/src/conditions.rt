@@ -1,40 +1,33 @@
 //! Condition records: the same in the sheets of devices and of properties.
 ghost use Rattle.std.specs.Prelude.{◌≡◌, ℕ, ◌+◌, ◌*◌, ◌/◌, ◌<◌, ◌≤◌, List, length};
 ghost use Rattle.device.specs.Terms.{relation_of};
-ghost use Rattle.sheet.specs.Conditions.{condition_at, condition_fault, condition_limits, condition_told, constant_fits, second_fits, term_of};
+ghost use Rattle.sheet.specs.Conditions.{condition_at, condition_limits, condition_told, constant_fits, second_fits, term_of};
 ghost use Rattle.sheet.specs.Limits.{checked, of_each};
 
 use super::faults::RecordFault;
 use super::kinds::RecordKind;
 use device::{Condition, Relation, Term};
 
-/// Where a section begins in its sheet, and the numbers that its conditions keep to.
-#[derive(Clone, Copy)]
-pub(crate) struct ConditionRules {
-    pub(crate) clocks: u8,
-    pub(crate) constant: u8,
-    pub(crate) at: usize,
-}
-
-fn relation(number: u8) -> Relation
-    ensures { result ≡ relation_of number }
-{
-    match number {
-        0 => Relation::Less,
-        1 => Relation::AtMost,
-        2 => Relation::Equal,
-        3 => Relation::AtLeast,
-        _ => Relation::Greater,
-    }
-}
-
+// Kept: that 255 stands for no second clock is a rule of the byte format, so this is no method of
+// `Term`.
 fn term(first: u8, second: u8) -> Term
     ensures { result ≡ term_of first second }
 {
-    if second == 255 {
-        Term::Clock(first)
-    } else {
-        Term::Difference(first, second)
+    match second {
+        255 => Term::Clock(first),
+        _ => Term::Difference(first, second),
+    }
+}
+
+// A condition record; each number past the relations' stands for the last.
+fn condition(bytes: [u8; 4]) -> Condition
+    ensures { result ≡ condition_at bytes 0 }
+{
+    let [first, second, relation, constant] = bytes;
+    Condition {
+        term: term(first, second),
+        relation: Relation::try_from(relation).unwrap_or(Relation::Greater),
+        constant: constant.cast_signed(),
     }
 }
 
@@ -42,83 +35,63 @@ fn term(first: u8, second: u8) -> Term
 pub fn read_condition(section: &[u8], index: usize) -> Option<Condition>
     ensures { result ≡ condition_told section.now index }
 {
-    if index >= section.len() / 4 {
-        return None;
-    }
-    let at = 4 * index;
-    Some(Condition {
-        term: term(section[at], section[at + 1]),
-        relation: relation(section[at + 2]),
-        constant: section[at + 3].cast_signed(),
-    })
+    let (records, _) = section.as_chunks::<4>();
+    let record = records.get(index)?;
+    Some(condition(*record))
 }
 
-// The second clock of a difference is another clock that exists.
-fn second_fits(clocks: u8, first: u8, second: u8) -> bool
-    ensures { result ≡ second_fits clocks first second }
-{
-    second == 255 || (second < clocks && second != first)
+/// Where a section begins in its sheet, and the numbers that its conditions keep to.
+#[derive(Clone, Copy)]
+pub(crate) struct ConditionRules {
+    pub(crate) clocks: u8,
+    pub(crate) constant: u8,
+    pub(crate) at: u16,
 }
 
-// The constant lies between the least for its term and the largest.
-fn constant_fits(largest: u8, term: Term, constant: i8) -> bool
-    ensures { result ≡ constant_fits largest term constant }
-{
-    let constant = i16::from(constant);
-    let largest = i16::from(largest);
-    let least = match term {
-        Term::Clock(_) => 0,
-        Term::Difference(_, _) => -largest,
-    };
-    least <= constant && constant <= largest
-}
+impl ConditionRules {
+    // The second clock of a difference is another clock that exists.
+    fn second_fits(self, first: u8, second: u8) -> bool
+        ensures { result ≡ second_fits self.clocks first second }
+    {
+        second == 255 || (second < self.clocks && second != first)
+    }
 
-// The fault of a condition, told at this byte.
-fn condition_fault(place: usize) -> RecordFault
-    ensures { result ≡ condition_fault place }
-{
-    RecordFault {
-        kind: RecordKind::Conditions,
-        place,
+    // The constant lies between the least for its term and the largest.
+    fn constant_fits(self, term: Term, constant: i8) -> bool
+        ensures { result ≡ constant_fits self.constant term constant }
+    {
+        let largest = i16::from(self.constant);
+        let least = match term {
+            Term::Clock(_) => 0,
+            Term::Difference(_, _) => -largest,
+        };
+        (least..=largest).contains(&i16::from(constant))
     }
-}
 
-fn check_condition(section: &[u8], rules: ConditionRules, k: usize) -> Result<(), RecordFault>
-    requires within { 4 * k + 4 ≤ length section.now }
-    requires short { length section.now ≤ 65535 }
-    requires early { rules.at ≤ 65535 }
-    ensures { result ≡ checked (condition_limits rules.clocks rules.constant section.now rules.at k) }
-{
-    let place = rules.at + 4 * k;
-    let first = section[4 * k];
-    let second = section[4 * k + 1];
-    if first >= rules.clocks {
-        return Err(condition_fault(place));
+    // The limits of one record, which stands at this byte of its sheet.
+    fn check(self, bytes: [u8; 4], place: usize) -> Result<(), RecordFault>
+        requires { place + 3 ≤ usize.MAX }
+        ensures { result ≡ checked (condition_limits self.clocks self.constant bytes place 0) }
+    {
+        let [first, second, relation, constant] = bytes;
+        let term = term(first, second);
+        let kind = RecordKind::Conditions;
+        kind.require(first < self.clocks, place)?;
+        kind.require(self.second_fits(first, second), place + 1)?;
+        kind.require(Relation::try_from(relation).is_ok(), place + 2)?;
+        kind.require(self.constant_fits(term, constant.cast_signed()), place + 3)
     }
-    if !second_fits(rules.clocks, first, second) {
-        return Err(condition_fault(place + 1));
-    }
-    if section[4 * k + 2] > 4 {
-        return Err(condition_fault(place + 2));
-    }
-    if !constant_fits(
-        rules.constant,
-        term(first, second),
-        section[4 * k + 3].cast_signed(),
-    ) {
-        return Err(condition_fault(place + 3));
-    }
-    Ok(())
-}
 
-/// The limits of every condition of a section, one after the other.
-pub(crate) fn check_conditions(section: &[u8], rules: ConditionRules) -> Result<(), RecordFault>
-    requires short { length section.now ≤ 65535 }
-    requires early { rules.at ≤ 65535 }
-    ensures { result ≡ checked (of_each (condition_limits rules.clocks rules.constant section.now rules.at) 0 (length section.now / 4)) }
-{
-    for k in 0..section.len() / 4 {
-        check_condition(section, rules, k)?;
+    /// The limits of every condition of a section, one after the other.
+    pub(crate) fn check_each(self, section: &[u8]) -> Result<(), RecordFault>
+        ensures { result ≡ checked (of_each (condition_limits self.clocks self.constant section.now self.at) 0 (length section.now / 4)) }
+    {
+        let (records, _) = section.as_chunks::<4>();
+        // Kept: edges and lines have such a loop each; one for all would need a public trait over
+        // sizes of records, longer than the three loops.
+        for (k, record) in records.iter().enumerate() {
+            self.check(*record, usize::from(self.at) + 4 * k)?;
+        }
+        Ok(())
     }
-    Ok(())
 }

@@ -1,11 +1,12 @@
 //! Why a sheet is refused. A record's fault is held in the directory's, and that in the sheet's.
-ghost use Rattle.std.specs.Prelude.{◌≡◌};
-ghost use Rattle.sheet.specs.Faults.{number_of, refusal_of, place_of, layer_of, InDirectory, InRecord};
+ghost use Rattle.std.specs.Prelude.{◌≡◌, [], ◌∷◌};
+ghost use Rattle.sheet.specs.Faults.{number_of, record_fault, refusal_of, place_of, layer_of, InDirectory, InRecord};
+ghost use Rattle.sheet.specs.Limits.{checked, limit};
 
 use super::kinds::RecordKind;
 
 /// The part of a sheet that a fault was found in.
-#[derive(Clone, Copy)]
+#[derive(Clone, Copy, PartialEq, Eq, Debug)]
 pub enum Layer {
     Sheet,
     Directory,
@@ -13,10 +14,10 @@ pub enum Layer {
 }
 
 /// Why a sheet is refused, in the order of checking.
-#[derive(Clone, Copy)]
+#[derive(Clone, Copy, PartialEq, Eq, Debug)]
 pub enum Refusal {
     /// The sheet is too short or too long.
-    BadSize,
+    BadSize = 1,
     /// Its first byte is not the letter of its kind.
     BadLetter,
     /// A byte of its header breaks a limit.
@@ -38,28 +39,35 @@ impl Refusal {
     pub fn number(self) -> u8
         ensures { result ≡ number_of self }
     {
-        match self {
-            Refusal::BadSize => 1,
-            Refusal::BadLetter => 2,
-            Refusal::BadHeader => 3,
-            Refusal::BadBounds => 4,
-            Refusal::BadCount => 5,
-            Refusal::BadCondition => 6,
-            Refusal::BadEdge => 7,
-            Refusal::BadLine => 8,
-        }
+        self as u8
     }
 }
 
 /// A record with a field that breaks a limit; the place is the field's first byte.
-#[derive(Clone, Copy)]
+#[derive(Clone, Copy, PartialEq, Eq, Debug)]
 pub struct RecordFault {
     pub kind: RecordKind,
     pub place: usize,
 }
 
+impl RecordKind {
+    /// The fault of such a record, told at this byte.
+    pub fn fault(self, place: usize) -> RecordFault
+        ensures { result ≡ record_fault self place }
+    {
+        RecordFault { kind: self, place }
+    }
+
+    /// The limit of a field of such a record: unless it is kept, the fault at the field's byte.
+    pub fn require(self, kept: bool, place: usize) -> Result<(), RecordFault>
+        ensures { result ≡ checked (limit kept (record_fault self place) ∷ []) }
+    {
+        if kept { Ok(()) } else { Err(self.fault(place)) }
+    }
+}
+
 /// A section out of bounds or of a wrong length, or a fault in one of its records.
-#[derive(Clone, Copy)]
+#[derive(Clone, Copy, PartialEq, Eq, Debug)]
 pub enum DirectoryFault {
     Bounds { place: usize },
     Count { place: usize },
@@ -67,7 +75,7 @@ pub enum DirectoryFault {
 }
 
 /// A sheet's own fault, or one of its directory's.
-#[derive(Clone, Copy)]
+#[derive(Clone, Copy, PartialEq, Eq, Debug)]
 pub enum SheetFault {
     Size,
     Letter,

@@ -17,7 +17,7 @@ impl<'a> Input<'a> {
         ensures device { result.device.now ≡ device_part bytes.now }
         ensures property { result.property.now ≡ property_part bytes.now }
     {
-        let len = word_at(bytes, 0);
+        let len = usize::from(word_at(bytes, 0));
         Input {
             device: part(bytes, 2, len),
             property: rest(bytes, 2 + len),

@@ -1,9 +1,10 @@
 //! The two kinds of sheet and the three kinds of record.
-ghost use Rattle.std.specs.Prelude.{◌≡◌, ◌<◌, ◌≤◌};
-ghost use Rattle.sheet.specs.Kinds.{letter_of, sections_of, size_of, least_of, most_of};
+ghost use Rattle.std.specs.Prelude.{◌≡◌, ◌<◌, [], ◌∷◌};
+ghost use Rattle.sheet.specs.Kinds.{Conditions, letter_of, sections_of, size_of, least_of, most_of};
+ghost use Rattle.sheet.specs.Layout.{count_fits};
 
 /// What a sheet describes.
-#[derive(Clone, Copy)]
+#[derive(Clone, Copy, PartialEq, Eq, Debug)]
 pub enum SheetKind {
     Device,
     Property,
@@ -20,56 +21,54 @@ impl SheetKind {
         }
     }
 
-    /// The sections of such a sheet, in the order of its directory.
-    pub(crate) fn sections(self) -> [RecordKind; 2]
-        ensures { result ≡ sections_of self }
+    /// What the first section of such a sheet is made of; the second has conditions.
+    pub(crate) fn records(self) -> RecordKind
+        ensures { result ∷ Conditions ∷ [] ≡ sections_of self }
     {
         match self {
-            SheetKind::Device => [RecordKind::Edges, RecordKind::Conditions],
-            SheetKind::Property => [RecordKind::Lines, RecordKind::Conditions],
+            SheetKind::Device => RecordKind::Edges,
+            SheetKind::Property => RecordKind::Lines,
         }
     }
 }
 
 /// What a section is made of.
-#[derive(Clone, Copy)]
+#[derive(Clone, Copy, PartialEq, Eq, Debug)]
 pub enum RecordKind {
     Edges,
     Lines,
     Conditions,
 }
 
+/// How many bytes a record has, and how many records a section has at least and at most.
+#[derive(Clone, Copy)]
+struct Sizes {
+    size: u16,
+    least: u16,
+    most: u16,
+    ghost positive: { 0 < size },
+}
+
 impl RecordKind {
-    /// How many bytes one record has.
-    pub(crate) fn size(self) -> usize
-        ensures value { result ≡ size_of self }
-        ensures positive { 0 < result }
+    fn sizes(self) -> Sizes
+        ensures size { result.size ≡ size_of self }
+        ensures least { result.least ≡ least_of self }
+        ensures most { result.most ≡ most_of self }
     {
-        match self {
-            RecordKind::Edges => 8,
-            RecordKind::Lines => 4,
-            RecordKind::Conditions => 4,
-        }
+        let (size, least, most) = match self {
+            RecordKind::Edges => (8, 0, 256),
+            RecordKind::Lines => (4, 1, 200),
+            RecordKind::Conditions => (4, 0, 1024),
+        };
+        Sizes { size, least, most }
     }
 
-    /// How many records a section has at least.
-    pub(crate) fn least(self) -> usize
-        ensures { result ≡ least_of self }
+    /// Whether so many bytes are a whole number of such records, as many as there may be.
+    pub(crate) fn fills(self, len: u16) -> bool
+        ensures { result ≡ count_fits self len }
     {
-        match self {
-            RecordKind::Lines => 1,
-            _ => 0,
-        }
-    }
-
-    /// How many records a section has at most.
-    pub(crate) fn most(self) -> usize
-        ensures { result ≡ most_of self }
-    {
-        match self {
-            RecordKind::Edges => 256,
-            RecordKind::Lines => 200,
-            RecordKind::Conditions => 1024,
-        }
+        let sizes = self.sizes();
+        let count = len / sizes.size;
+        len % sizes.size == 0 && (sizes.least..=sizes.most).contains(&count)
     }
 }

@@ -8,9 +8,11 @@ mod input;
 mod kinds;
 mod parts;
 mod reader;
+mod sheets;
 
 pub use conditions::read_condition;
 pub use faults::{DirectoryFault, Layer, RecordFault, Refusal, SheetFault};
 pub use input::Input;
 pub use kinds::{RecordKind, SheetKind};
 pub use reader::{Reader, Sections};
+pub use sheets::{SheetRecords, check_sheet};

@@ -1,11 +1,12 @@
 //! A reader over the bytes of one sheet.
-ghost use Rattle.std.specs.Prelude.{◌≡◌, ℕ, ◌+◌, ◌*◌, ◌≤◌, [], ◌∷◌, length};
-ghost use Rattle.sheet.specs.Kinds.{sections_of, Device, Property};
-ghost use Rattle.sheet.specs.Limits.{checked};
-ghost use Rattle.sheet.specs.Layout.{byte_at, offset_of, extent_of, section_of, counts_limits, edition_limits, header_limits, bounds_limits, count_limit, count_limits, directory_limits};
+ghost use Rattle.std.specs.Prelude.{◌≡◌, ◌+◌, ◌≤◌, [], ◌∷◌, ◌&&◌, length, take, drop, nat_le};
+ghost use Rattle.sheet.specs.Kinds.{Device, Property};
+ghost use Rattle.sheet.specs.Faults.{Header};
+ghost use Rattle.sheet.specs.Limits.{checked, limit};
+ghost use Rattle.sheet.specs.Layout.{byte_at, word_at, offset_of, section_of, counts_limits, edition_limits, header_limits, directory_limits};
 ghost use Rattle.sheet.specs.Conditions.{conditions_limits};
 
-use super::conditions::{ConditionRules, check_conditions};
+use super::conditions::ConditionRules;
 use super::faults::{DirectoryFault, RecordFault, SheetFault};
 use super::kinds::{RecordKind, SheetKind};
 use super::parts::{byte_at, part, word_at};
@@ -25,6 +26,45 @@ pub struct Sections<'a> {
     pub conditions: &'a [u8],
 }
 
+// The bytes of the directory's two pairs.
+const RECORDS: u8 = 8;
+
+const CONDITIONS: u8 = 12;
+
+// A pair of the directory: where a section begins and how long it is.
+#[derive(Clone, Copy)]
+struct Pair {
+    from: u16,
+    len: u16,
+}
+
+impl Pair {
+    // Where the section ends.
+    fn end(self) -> usize
+        ensures { result ≡ self.from + self.len }
+    {
+        usize::from(self.from) + usize::from(self.len)
+    }
+
+    // The section begins at byte `floor` or later, and ends within `bytes` bytes.
+    fn lies_within(self, floor: usize, bytes: usize) -> bool
+        ensures { result ≡ (nat_le floor self.from && nat_le (self.from + self.len) bytes) }
+    {
+        floor <= usize::from(self.from) && self.end() <= bytes
+    }
+}
+
+// A limit of the header: a byte that fits, or the fault that tells it.
+fn check_byte(place: usize, fits: bool) -> Result<(), SheetFault>
+    ensures { result ≡ checked (limit fits (Header place) ∷ []) }
+{
+    if fits {
+        Ok(())
+    } else {
+        Err(SheetFault::Header { place })
+    }
+}
+
 impl<'a> Reader<'a> {
     /// A reader of these bytes.
     pub fn new(sheet: &'a [u8], kind: SheetKind) -> Reader<'a>
@@ -41,29 +81,25 @@ impl<'a> Reader<'a> {
         byte_at(self.sheet, place)
     }
 
-    fn offset(&self, index: usize) -> usize
-        requires { index ≤ 8 }
-        ensures value { result ≡ offset_of self.now.sheet.now index }
-        ensures bound { result ≤ 65535 }
+    // The pair of the directory that stands at this byte.
+    fn pair(&self, place: u8) -> Pair
+        ensures from { result.from ≡ word_at self.now.sheet.now place }
+        ensures len { result.len ≡ word_at self.now.sheet.now (place + 2) }
     {
-        word_at(self.sheet, 8 + 4 * index)
-    }
-
-    fn extent(&self, index: usize) -> usize
-        requires { index ≤ 8 }
-        ensures value { result ≡ extent_of self.now.sheet.now index }
-        ensures bound { result ≤ 65535 }
-    {
-        word_at(self.sheet, 10 + 4 * index)
+        let place = u16::from(place);
+        Pair {
+            from: word_at(self.sheet, place),
+            len: word_at(self.sheet, place + 2),
+        }
     }
 
     // The part of the sheet that a pair of the directory names, as far as the sheet goes.
-    fn section(&self, index: usize) -> &'a [u8]
-        requires { index ≤ 8 }
-        ensures value { result.now ≡ section_of self.now.sheet.now index }
+    fn section(&self, place: u8) -> &'a [u8]
+        ensures value { result.now ≡ take (word_at self.now.sheet.now (place + 2)) (drop (word_at self.now.sheet.now place) self.now.sheet.now) }
         ensures bound { length result.now ≤ 65535 }
     {
-        part(self.sheet, self.offset(index), self.extent(index))
+        let pair = self.pair(place);
+        part(self.sheet, usize::from(pair.from), usize::from(pair.len))
     }
 
     /// Where the first section begins, as the directory says.
@@ -71,7 +107,7 @@ impl<'a> Reader<'a> {
         ensures value { result ≡ offset_of self.now.sheet.now 0 }
         ensures bound { result ≤ 65535 }
     {
-        self.offset(0)
+        usize::from(self.pair(RECORDS).from)
     }
 
     /// Both sections.
@@ -81,63 +117,9 @@ impl<'a> Reader<'a> {
         ensures short { length result.records.now ≤ 65535 }
     {
         Sections {
-            records: self.section(0),
-            conditions: self.section(1),
+            records: self.section(RECORDS),
+            conditions: self.section(CONDITIONS),
         }
-    }
-
-    // Nodes, clocks, largest constant and start of a device.
-    fn check_device_counts(&self) -> Result<(), SheetFault>
-        ensures { result ≡ checked (counts_limits Device self.now.sheet.now) }
-    {
-        let nodes = self.byte(1);
-        if nodes < 1 || nodes > 64 {
-            return Err(SheetFault::Header { place: 1 });
-        }
-        if self.byte(2) > 4 {
-            return Err(SheetFault::Header { place: 2 });
-        }
-        if self.byte(3) > 15 {
-            return Err(SheetFault::Header { place: 3 });
-        }
-        if self.byte(4) >= nodes {
-            return Err(SheetFault::Header { place: 4 });
-        }
-        Ok(())
-    }
-
-    // Clocks and largest constant of a property.
-    fn check_property_counts(&self) -> Result<(), SheetFault>
-        ensures { result ≡ checked (counts_limits Property self.now.sheet.now) }
-    {
-        if self.byte(1) != 0 {
-            return Err(SheetFault::Header { place: 1 });
-        }
-        if self.byte(2) > 2 {
-            return Err(SheetFault::Header { place: 2 });
-        }
-        if self.byte(3) > 15 {
-            return Err(SheetFault::Header { place: 3 });
-        }
-        if self.byte(4) != 0 {
-            return Err(SheetFault::Header { place: 4 });
-        }
-        Ok(())
-    }
-
-    fn check_edition(&self) -> Result<(), SheetFault>
-        ensures { result ≡ checked (edition_limits self.now.sheet.now) }
-    {
-        if self.byte(5) != 2 {
-            return Err(SheetFault::Header { place: 5 });
-        }
-        if self.byte(6) != 0 {
-            return Err(SheetFault::Header { place: 6 });
-        }
-        if self.byte(7) != 0 {
-            return Err(SheetFault::Header { place: 7 });
-        }
-        Ok(())
     }
 
     fn check_counts(&self) -> Result<(), SheetFault>
@@ -149,11 +131,40 @@ impl<'a> Reader<'a> {
         }
     }
 
+    // Nodes, clocks, largest constant and start of a device.
+    fn check_device_counts(&self) -> Result<(), SheetFault>
+        ensures { result ≡ checked (counts_limits Device self.now.sheet.now) }
+    {
+        let nodes = self.byte(1);
+        check_byte(1, (1..=64).contains(&nodes))?;
+        check_byte(2, self.byte(2) <= 4)?;
+        check_byte(3, self.byte(3) <= 15)?;
+        check_byte(4, self.byte(4) < nodes)
+    }
+
+    // Clocks and largest constant of a property.
+    fn check_property_counts(&self) -> Result<(), SheetFault>
+        ensures { result ≡ checked (counts_limits Property self.now.sheet.now) }
+    {
+        check_byte(1, self.byte(1) == 0)?;
+        check_byte(2, self.byte(2) <= 2)?;
+        check_byte(3, self.byte(3) <= 15)?;
+        check_byte(4, self.byte(4) == 0)
+    }
+
+    fn check_edition(&self) -> Result<(), SheetFault>
+        ensures { result ≡ checked (edition_limits self.now.sheet.now) }
+    {
+        check_byte(5, self.byte(5) == 2)?;
+        check_byte(6, self.byte(6) == 0)?;
+        check_byte(7, self.byte(7) == 0)
+    }
+
     /// The limits of the sheet's size, its letter and its header: refusals 1 to 3.
     pub fn check_header(&self) -> Result<(), SheetFault>
         ensures { result ≡ checked (header_limits self.now.kind self.now.sheet.now) }
     {
-        if self.sheet.len() < 16 || self.sheet.len() > 65535 {
+        if !(16..=65535).contains(&self.sheet.len()) {
             return Err(SheetFault::Size);
         }
         if self.byte(0) != self.kind.letter() {
@@ -163,58 +174,33 @@ impl<'a> Reader<'a> {
         self.check_edition()
     }
 
-    // Each section lies in the sheet, and none begins before the one before it ends.
-    fn check_bounds(&self, sections: &[RecordKind]) -> Result<(), DirectoryFault>
-        requires { length sections.now ≤ 8 }
-        ensures { result ≡ checked (bounds_limits self.now.sheet.now 0 (8 + 4 * length sections.now) sections.now) }
-    {
-        let mut floor = 8 + 4 * sections.len();
-        for index in 0..sections.len() {
-            let from = self.offset(index);
-            let to = from + self.extent(index);
-            if from < floor || to > self.sheet.len() {
-                return Err(DirectoryFault::Bounds {
-                    place: 8 + 4 * index,
-                });
-            }
-            floor = to;
-        }
-        Ok(())
-    }
-
-    fn check_count(&self, index: usize, kind: RecordKind) -> Result<(), DirectoryFault>
-        requires { index ≤ 8 }
-        ensures { result ≡ checked (count_limit self.now.sheet.now index kind ∷ []) }
-    {
-        let extent = self.extent(index);
-        let size = kind.size();
-        let count = extent / size;
-        if extent % size != 0 || count < kind.least() || count > kind.most() {
-            return Err(DirectoryFault::Count {
-                place: 10 + 4 * index,
-            });
-        }
-        Ok(())
-    }
-
-    // Each section is a whole number of records, as many as there may be.
-    fn check_lengths(&self, sections: &[RecordKind]) -> Result<(), DirectoryFault>
-        requires { length sections.now ≤ 8 }
-        ensures { result ≡ checked (count_limits self.now.sheet.now 0 sections.now) }
-    {
-        for index in 0..sections.len() {
-            self.check_count(index, sections[index])?;
-        }
-        Ok(())
-    }
-
     /// The limits of the directory: refusals 4 and 5.
     pub fn check_directory(&self) -> Result<(), DirectoryFault>
         ensures { result ≡ checked (directory_limits self.now.kind self.now.sheet.now) }
     {
-        let sections = self.kind.sections();
-        self.check_bounds(&sections)?;
-        self.check_lengths(&sections)
+        let records = self.pair(RECORDS);
+        let conditions = self.pair(CONDITIONS);
+        if !records.lies_within(16, self.sheet.len()) {
+            return Err(DirectoryFault::Bounds {
+                place: usize::from(RECORDS),
+            });
+        }
+        if !conditions.lies_within(records.end(), self.sheet.len()) {
+            return Err(DirectoryFault::Bounds {
+                place: usize::from(CONDITIONS),
+            });
+        }
+        if !self.kind.records().fills(records.len) {
+            return Err(DirectoryFault::Count {
+                place: usize::from(RECORDS) + 2,
+            });
+        }
+        if !RecordKind::Conditions.fills(conditions.len) {
+            return Err(DirectoryFault::Count {
+                place: usize::from(CONDITIONS) + 2,
+            });
+        }
+        Ok(())
     }
 
     /// The limits of every condition record: refusal 6.
@@ -224,8 +210,8 @@ impl<'a> Reader<'a> {
         let rules = ConditionRules {
             clocks: self.byte(2),
             constant: self.byte(3),
-            at: self.offset(1),
+            at: self.pair(CONDITIONS).from,
         };
-        check_conditions(self.section(1), rules)
+        rules.check_each(self.section(CONDITIONS))
     }
 }

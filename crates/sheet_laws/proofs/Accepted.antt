@@ -1,5 +1,5 @@
 -- A reading succeeds exactly if its check passes, and that exactly if the named limits hold.
-use Rattle.std.proofs.Common.{◌≡◌, ℕ, true, is_ok, Ok, Err, Result, refl, ap, arith}
+use Rattle.std.proofs.Common.{◌≡◌, true, is_ok, Ok, Err, Result, refl, ap}
 use Rattle.sheet.specs.Limits.{checked, read_if}
 use Rattle.device_sheet.specs.Sheets.{device_limits, sheet_meaning}
 use Rattle.device_sheet.proofs.Fitting.{device_fits_from, device_passed}
@@ -9,7 +9,7 @@ use Rattle.sheet_laws.specs.Acceptance.{DeviceAcceptedExactly, PropertyAcceptedE
 
 passed_by : {V F : Type 0} (v : V) (r : Result (Unit {0}) F) → is_ok (read_if r v) ≡ true → r ≡ Ok tt
 passed_by v (Ok u) e = refl
-passed_by v (Err f) e = let z : ◌≡◌ {A = ℕ} 0 1 = cc in absurd (omega arith)
+passed_by v (Err f) e = absurd (cc)
 
 pub device_accepted_exactly : DeviceAcceptedExactly
 device_accepted_exactly b =

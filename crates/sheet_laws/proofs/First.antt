@@ -1,5 +1,5 @@
 -- Of limits that rise, a check tells the fault that goes first among those of the broken limits.
-use Rattle.std.proofs.Common.{◌≡◌, ℕ, ◌<◌, ◌≤◌, Bool, true, false, cond, ◌⊎◌, List, [], ◌∷◌, Ok, Err, Result, refl, ap, subst, inl, inr, ⊎_elim, arith}
+use Rattle.std.proofs.Common.{◌≡◌, ◌<◌, ◌≤◌, Bool, true, false, cond, ◌⊎◌, List, [], ◌∷◌, Ok, Err, Result, refl, ap, subst, inl, inr, ⊎_elim, arith}
 use Rattle.std.proofs.lemmas.Bool.{both_ways, cases_lt}
 use Rattle.sheet.specs.declared.faults.SheetFault.{SheetFault}
 use Rattle.sheet.specs.Limits.{Limit, checked, read_if}
@@ -49,7 +49,7 @@ module _ (l : Limit SheetFault) (ls : List (Limit SheetFault)) (f : SheetFault) 
 
 -- the fault that a check tells is that of a broken limit, and goes first
 told_first : (a b : Key) (ls : List (Limit SheetFault)) (f : SheetFault) → Rises key_of a b ls → checked ls ≡ Err f → ToldFirst ls f
-told_first a b [] f r e = let z : ◌≡◌ {A = ℕ} 0 1 = cc in absurd (omega arith)
+told_first a b [] f r e = absurd (cc)
 told_first a b (l ∷ ls) f r e =
     at_limit l ls f b r.1 l.kept refl (told_first (key_of l.fault) b ls f r.1) e
 
@@ -66,7 +66,7 @@ module _ (a b : Key) (ls : List (Limit SheetFault)) (f : SheetFault) (rises : Ri
 -- a reading is refused only as its check is
 module _ {V F : Type 0} (v : V) (f : F) where
   refused_by : (r : Result (Unit {0}) F) → read_if r v ≡ Err f → r ≡ Err f
-  refused_by (Ok u) e = let z : ◌≡◌ {A = ℕ} 0 1 = cc in absurd (omega arith)
+  refused_by (Ok u) e = absurd (cc)
   refused_by (Err g) e = ap Err (cc)
 
 -- what is read if the check of rising limits passes is refused with the fault that goes first

@@ -1,5 +1,5 @@
 -- The limits of a sheet rise: 1 to 3 in its header, 4 and 5 in its directory, 6 in its conditions, and then 7 or 8.
-use Rattle.std.proofs.Common.{◌≡◌, ℕ, ◌+◌, ◌*◌, ◌/◌, ◌≤◌, List, ◌++◌, length, Err, sym, ap, ◌∙◌, arith}
+use Rattle.std.proofs.Common.{◌≡◌, ℕ, ◌+◌, ◌*◌, ◌/◌, ◌≤◌, List, ◌++◌, length, Err, sym, ap, arith}
 use Rattle.sheet.specs.declared.kinds.SheetKind.{SheetKind}
 use Rattle.sheet.specs.declared.kinds.SheetKind.TheVariants.{Device, Property}
 use Rattle.sheet.specs.declared.faults.RecordFault.{RecordFault}
@@ -95,10 +95,8 @@ property_refused_first b f =
     refused_first (sheet_content b) (at 1 0) (at 9 0) (property_limits b) f (sheet_rises Property b (lines_limits b) 8 (omega arith) (lines_rise b))
 
 -- the same from a check that told a fault
-pub device_told : (b c : List ℕ) (f : SheetFault) → b ≡ c → Err f ≡ checked (device_limits b) → ToldFirst (device_limits c) f
-device_told b c f same e =
-    (device_refused_first c f).0 (ap (λ r. read_if r (sheet_meaning c)) (sym (e ∙ ap (λ x. checked (device_limits x)) same)))
+pub device_told : (b : List ℕ) (f : SheetFault) → Err f ≡ checked (device_limits b) → ToldFirst (device_limits b) f
+device_told b f e = (device_refused_first b f).0 (ap (λ r. read_if r (sheet_meaning b)) (sym e))
 
-pub property_told : (b c : List ℕ) (f : SheetFault) → b ≡ c → Err f ≡ checked (property_limits b) → ToldFirst (property_limits c) f
-property_told b c f same e =
-    (property_refused_first c f).0 (ap (λ r. read_if r (sheet_content c)) (sym (e ∙ ap (λ x. checked (property_limits x)) same)))
+pub property_told : (b : List ℕ) (f : SheetFault) → Err f ≡ checked (property_limits b) → ToldFirst (property_limits b) f
+property_told b f e = (property_refused_first b f).0 (ap (λ r. read_if r (sheet_content b)) (sym e))

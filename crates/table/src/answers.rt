@@ -1,36 +1,38 @@
 //! The answers of a table.
-ghost use Rattle.std.specs.Prelude.{◌≡◌, ◌+◌, ◌*◌, ◌≤◌, length};
-ghost use Rattle.device_sheet.specs.Edges.{first_at};
+ghost use Rattle.std.specs.Prelude.{◌≡◌};
 ghost use Rattle.device_sheet.proofs.Lawfuls.{table_lawful};
-ghost use Rattle.table.specs.Meanings.{edge_told, meaning_of};
+ghost use Rattle.table.specs.Meanings.{edge_of_record, meaning_of};
+ghost use Rattle.table.specs.Records.{record_told};
 
-use super::edges::first_condition;
+use super::edges::{EdgeRecord, edge_records};
 use super::held::Table;
 use device::{ClockSet, Condition, Device, Edge, Number};
 use sheet::read_condition;
 
-// Edge record `e` of a section of edges.
-fn read_edge(edges: &[u8], e: usize) -> Edge
-    requires { 8 * e + 8 ≤ length edges.now }
-    ensures { result ≡ edge_told edges.now e }
-{
-    Edge {
-        source: edges[8 * e] as u16,
-        target: edges[8 * e + 1] as u16,
-        action: edges[8 * e + 2],
-        resets: ClockSet {
-            bits: edges[8 * e + 3],
-        },
-        conditions: edges[8 * e + 6],
+impl From<EdgeRecord> for Edge {
+    ghost from_gives = { λ fields edge. edge ≡ edge_of_record fields };
+
+    fn from(fields: EdgeRecord) -> Edge {
+        Edge {
+            source: u16::from(fields.source),
+            target: u16::from(fields.target),
+            action: fields.action,
+            resets: ClockSet {
+                bits: fields.resets,
+            },
+            conditions: fields.count,
+        }
     }
 }
 
-// The number of the condition at a place of edge `e`'s guard.
-fn condition_number(edges: &[u8], e: usize, place: u32) -> usize
-    requires { 8 * e + 8 ≤ length edges.now }
-    ensures { result ≡ first_at edges.now e + place }
-{
-    first_condition(edges, e) + place as usize
+impl<'a> Table<'a> {
+    // The record of the edge with this number; none past the last.
+    fn record(&self, number: u32) -> Option<EdgeRecord>
+        ensures { result ≡ record_told self.now.edges.now number }
+    {
+        let bytes = edge_records(self.edges).get(number as usize)?;
+        Some(EdgeRecord::from(*bytes))
+    }
 }
 
 impl<'a> Device for Table<'a> {
@@ -40,28 +42,24 @@ impl<'a> Device for Table<'a> {
 
     fn number(&self, which: Number) -> u32 {
         match which {
-            Number::Nodes => self.nodes as u32,
-            Number::Start => self.start as u32,
-            Number::Clocks => self.clocks as u32,
-            Number::LargestConstant => self.constant as u32,
+            Number::Nodes => u32::from(self.nodes),
+            Number::Start => u32::from(self.start),
+            Number::Clocks => u32::from(self.clocks),
+            Number::LargestConstant => u32::from(self.constant),
             Number::MostConditions => 8,
             Number::EdgeNumbers => (self.edges.len() / 8) as u32,
         }
     }
 
     fn edge(&self, number: u32) -> Option<Edge> {
-        let e = number as usize;
-        if e >= self.edges.len() / 8 {
-            return None;
-        }
-        Some(read_edge(self.edges, e))
+        self.record(number).map(Edge::from)
     }
 
     fn condition(&self, number: u32, place: u32) -> Option<Condition> {
-        let e = number as usize;
-        if e >= self.edges.len() / 8 || place >= self.edges[8 * e + 6] as u32 {
+        let edge = self.record(number)?;
+        if place >= u32::from(edge.count) {
             return None;
         }
-        read_condition(self.conditions, condition_number(self.edges, e, place))
+        read_condition(self.conditions, usize::from(edge.first) + place as usize)
     }
 }

@@ -1,87 +1,114 @@
-//! Edge records: their limits.
-ghost use Rattle.std.specs.Prelude.{◌≡◌, ℕ, ◌+◌, ◌*◌, ◌/◌, ◌^◌, ◌<◌, ◌≤◌, length, nat_lt};
+//! Edge records: what they hold, and their limits.
+ghost use Rattle.std.specs.Prelude.{◌≡◌, ◌+◌, ◌/◌, ◌^◌, ◌<◌, ◌≤◌, length, nat_lt};
+ghost use Rattle.std.specs.Simd.{first_chunks};
+ghost use Rattle.sheet.specs.declared.kinds.SheetKind.TheVariants.{Device};
 ghost use Rattle.sheet.specs.Limits.{checked, of_each};
-ghost use Rattle.device_sheet.specs.Edges.{edge_fault, edge_limits, first_at};
+ghost use Rattle.device_sheet.specs.Edges.{edge_limits};
+ghost use Rattle.device_sheet.specs.Sheets.{edges_limits};
+ghost use Rattle.table.specs.Records.{record_at};
 
-use sheet::{RecordFault, RecordKind};
+use sheet::{Reader, RecordFault, RecordKind, SheetKind, SheetRecords};
 
-/// The numbers that edges keep to, and where their section begins in its sheet.
+/// What a record of an edge holds, field by field.
+#[derive(Clone, Copy)]
+pub(super) struct EdgeRecord {
+    pub(super) source: u8,
+    pub(super) target: u8,
+    pub(super) action: u8,
+    pub(super) resets: u8,
+    pub(super) first: u16,
+    pub(super) count: u8,
+    pub(super) reserved: u8,
+}
+
+impl From<[u8; 8]> for EdgeRecord {
+    ghost from_gives = { λ bytes r. r ≡ record_at bytes 0 };
+
+    fn from(bytes: [u8; 8]) -> EdgeRecord {
+        let [source, target, action, resets, high, low, count, reserved] = bytes;
+        EdgeRecord {
+            source,
+            target,
+            action,
+            resets,
+            first: u16::from_be_bytes([high, low]),
+            count,
+            reserved,
+        }
+    }
+}
+
+/// The records of a section of edges.
+pub(super) fn edge_records(section: &[u8]) -> &[[u8; 8]]
+    ensures value { result.now ≡ first_chunks 8 (length section.now / 8) section.now }
+    ensures count { length result.now ≡ length section.now / 8 }
+{
+    section.as_chunks().0
+}
+
+/// The numbers that edges keep to: how many nodes, clocks and conditions there are.
 #[derive(Clone, Copy)]
 pub(super) struct EdgeRules {
-    pub(super) nodes: u8,
-    pub(super) clocks: u8,
-    pub(super) conditions: usize,
-    pub(super) at: usize,
+    nodes: u8,
+    clocks: u8,
+    conditions: usize,
 }
 
-/// The number of the first condition of edge `e`.
-pub(super) fn first_condition(edges: &[u8], e: usize) -> usize
-    requires { 8 * e + 8 ≤ length edges.now }
-    ensures value { result ≡ first_at edges.now e }
-    ensures bound { result ≤ 65535 }
-{
-    edges[8 * e + 4] as usize * 256 + edges[8 * e + 5] as usize
+impl EdgeRules {
+    // Only clocks that exist are reset.
+    fn resets_fit(self, resets: u8) -> bool
+        ensures { result ≡ nat_lt resets (2 ^ self.clocks) }
+    {
+        self.clocks >= 8 || resets < 1 << self.clocks
+    }
+
+    // The limits of the edge whose record begins at this byte of the sheet.
+    fn check_edge(self, bytes: &[u8; 8], place: usize) -> Result<(), RecordFault>
+        requires { place + 7 ≤ usize.MAX }
+        ensures { result ≡ checked (edge_limits self.nodes self.clocks self.conditions bytes.now place 0) }
+    {
+        let edge = EdgeRecord::from(*bytes);
+        let first = usize::from(edge.first);
+        let count = usize::from(edge.count);
+        let kind = RecordKind::Edges;
+        kind.require(edge.source < self.nodes, place)?;
+        kind.require(edge.target < self.nodes, place + 1)?;
+        kind.require((1..=16).contains(&edge.action), place + 2)?;
+        kind.require(self.resets_fit(edge.resets), place + 3)?;
+        kind.require(first <= self.conditions, place + 4)?;
+        kind.require(count <= 8 && first + count <= self.conditions, place + 6)?;
+        kind.require(edge.reserved == 0, place + 7)
+    }
+
+    // The limits of every edge of a section that begins at this byte of the sheet.
+    fn check_each(self, section: &[u8], at: usize) -> Result<(), RecordFault>
+        requires { at ≤ 65535 }
+        ensures { result ≡ checked (of_each (edge_limits self.nodes self.clocks self.conditions section.now at) 0 (length section.now / 8)) }
+    {
+        // Kept: lines and conditions have such a loop each; one for all would need a public trait over
+        // sizes of records, longer than the three loops.
+        for (e, bytes) in edge_records(section).iter().enumerate() {
+            self.check_edge(bytes, at + 8 * e)?;
+        }
+        Ok(())
+    }
 }
 
-// Only clocks that exist are reset.
-fn resets_fit(resets: u8, clocks: u8) -> bool
-    ensures { result ≡ nat_lt resets (2 ^ clocks) }
-{
-    clocks >= 8 || resets < 1 << clocks
-}
+impl SheetRecords for EdgeRules {
+    ghost KIND = { Device };
 
-// The fault of an edge, told at this byte.
-fn edge_fault(place: usize) -> RecordFault
-    ensures { result ≡ edge_fault place }
-{
-    RecordFault {
-        kind: RecordKind::Edges,
-        place,
-    }
-}
+    const KIND: SheetKind = SheetKind::Device;
 
-fn check_edge(edges: &[u8], rules: EdgeRules, e: usize) -> Result<(), RecordFault>
-    requires within { 8 * e + 8 ≤ length edges.now }
-    requires short { length edges.now ≤ 65535 }
-    requires early { rules.at ≤ 65535 }
-    ensures { result ≡ checked (edge_limits rules.nodes rules.clocks rules.conditions edges.now rules.at e) }
-{
-    let place = rules.at + 8 * e;
-    if edges[8 * e] >= rules.nodes {
-        return Err(edge_fault(place));
-    }
-    if edges[8 * e + 1] >= rules.nodes {
-        return Err(edge_fault(place + 1));
-    }
-    let action = edges[8 * e + 2];
-    if action < 1 || action > 16 {
-        return Err(edge_fault(place + 2));
-    }
-    if !resets_fit(edges[8 * e + 3], rules.clocks) {
-        return Err(edge_fault(place + 3));
-    }
-    let first = first_condition(edges, e);
-    if first > rules.conditions {
-        return Err(edge_fault(place + 4));
-    }
-    let count = edges[8 * e + 6] as usize;
-    if count > 8 || first + count > rules.conditions {
-        return Err(edge_fault(place + 6));
-    }
-    if edges[8 * e + 7] != 0 {
-        return Err(edge_fault(place + 7));
-    }
-    Ok(())
-}
+    ghost limits = { edges_limits };
 
-/// The limits of every edge, one after the other.
-pub(super) fn check_edges(edges: &[u8], rules: EdgeRules) -> Result<(), RecordFault>
-    requires short { length edges.now ≤ 65535 }
-    requires early { rules.at ≤ 65535 }
-    ensures { result ≡ checked (of_each (edge_limits rules.nodes rules.clocks rules.conditions edges.now rules.at) 0 (length edges.now / 8)) }
-{
-    for e in 0..edges.len() / 8 {
-        check_edge(edges, rules, e)?;
+    // Refusal 7, edge by edge.
+    fn check(reader: &Reader) -> Result<(), RecordFault> {
+        let sections = reader.sections();
+        let rules = EdgeRules {
+            nodes: reader.byte(1),
+            clocks: reader.byte(2),
+            conditions: sections.conditions.len() / 4,
+        };
+        rules.check_each(sections.records, reader.records_at())
     }
-    Ok(())
 }

@@ -1,4 +1,4 @@
-use Rattle.std.proofs.Common.{sym, subst, rules}
+use Rattle.std.proofs.Common.{sym, subst}
 use Rattle.std.proofs.lemmas.Result.{err_from_is_err_and}
 use Rattle.device_sheet.specs.Fits.{DeviceFits}
 use Rattle.sheet_laws.proofs.Sheets.{device_told}
@@ -10,7 +10,7 @@ use Rattle.table.proofs.held.Table.load.Goals as goal
 pub invariant_of-self : goal.invariant_of-self
 invariant_of-self c =
     let b = c.new-reader.result.sheet.now in
-    let f = device_fits_from b (sym c.in_ok-check_sheet.ensures) in
+    let f = subst DeviceFits (sym c.new-reader.ensures.bytes) (device_fits_from c.args.sheet.now (sym c.in_ok-check_sheet.ensures)) in
     let n = c.byte.result in
     let s = c.byte-2.result in
     let k = c.byte-3.result in
@@ -25,13 +25,10 @@ invariant_of-self c =
       records = told_records b f n s k m es cs c.byte.ensures c.byte-2.ensures c.byte-3.ensures c.byte-4.ensures ie ic;
     }
 
-pub returns-in_err-check_sheet : goal.returns-in_err-check_sheet
-returns-in_err-check_sheet c =
+pub returns-in_err-check_sheet-clause-limits : goal.returns-in_err-check_sheet-clause-limits
+returns-in_err-check_sheet-clause-limits c =
     let p = err_from_is_err_and c.from_residual.result c.from_residual.ensures.1 in
-    let told = device_told c.new-reader.result.sheet.now c.args.sheet.now c.in_err-check_sheet.field-0.0 c.new-reader.ensures.bytes c.in_err-check_sheet.ensures in
-    record { read = search rules; limits = rw (p.1, p.2) told }
+    rw (p.1, p.2) (device_told c.args.sheet.now c.in_err-check_sheet.field-0.0 c.in_err-check_sheet.ensures)
 
-pub returns : goal.returns
-returns c =
-    let fits = device_fits_from c.new-reader.result.sheet.now (sym c.in_ok-check_sheet.ensures) in
-    record { read = search rules; limits = subst DeviceFits c.new-reader.ensures.bytes fits }
+pub returns-clause-limits : goal.returns-clause-limits
+returns-clause-limits c = device_fits_from c.args.sheet.now (sym c.in_ok-check_sheet.ensures)
