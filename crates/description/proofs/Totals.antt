@@ -1,24 +1,27 @@
--- A loop that adds up the lengths of guards.
-use Rattle.std.proofs.Common.{◌≡◌, ℕ, suc, ◌+◌, ◌-◌, ◌<◌, ◌≤◌, ap, ◌∙◌, arith}
-use Rattle.device.specs.Meaning.{Meaning, edge_of}
+-- The lengths of guards, added up.
+use Rattle.std.proofs.Common.{◌≡◌, ℕ, zero, suc, ◌+◌, ◌*◌, ◌≤◌, List, Option, None, Some, length, sum_by, ap, sym, ◌∙◌, refl, zero-add, arith}
+use Rattle.std.specs.List.{filter_map, cons_option, range_with_len}
+use Rattle.std.proofs.lemmas.List.Sums.{sum_by-cons}
+use Rattle.device.specs.declared.Edge.{Edge}
+use Rattle.device.specs.Meaning.{Meaning, Lawful, Transition, told, edge_of}
 use Rattle.description.specs.Descriptions.{guard_length, guard_lengths}
 
--- at edge k of n: what is added, and what is left, make the whole
-abbrev pub AddedTo : Meaning → ℕ → ℕ → ℕ → Type 0
-AddedTo m n k total = total + guard_lengths m k (n - k) ≡ guard_lengths m 0 n
+one_added : (o : Option Edge) (es : List Edge) (n : ℕ) → sum_by (λ e. e.conditions) es ≡ n → sum_by (λ e. e.conditions) (cons_option o es) ≡ guard_length o + n
+one_added None es n e = e ∙ sym (zero-add n)
+one_added (Some x) es n e = sum_by-cons (λ e. e.conditions) x es ∙ ap (λ s. x.conditions + s) e
 
-module _ (m : Meaning) (n k total : ℕ) (inv : AddedTo m n k total) where
-  pub added_more : (g : ℕ) → k < n → g ≡ guard_length (edge_of m k) → AddedTo m n (k + 1) (total + g)
-  unfolding guard_lengths
-  added_more g h e =
-      let step : n - k ≡ suc (n - (k + 1)) = omega arith in
-      let at : guard_lengths m k (n - k) ≡ guard_length (edge_of m k) + guard_lengths m (k + 1) (n - (k + 1)) = ap (guard_lengths m k) step in
-      let sum : total + g + guard_lengths m (k + 1) (n - (k + 1)) ≡ total + guard_lengths m k (n - k) = omega (arith, at, e) in
-      sum ∙ inv
+pub lengths_added : (m : Meaning) (k n : ℕ) → sum_by (λ e. e.conditions) (filter_map (edge_of m) (range_with_len k n)) ≡ guard_lengths m k n
+unfolding guard_lengths
+lengths_added m k zero = refl
+lengths_added m k (suc n) = one_added (edge_of m k) _ _ (lengths_added m (k + 1) n)
 
-  pub added_all : n ≤ k → total ≡ guard_lengths m 0 n
-  unfolding guard_lengths
-  added_all h =
-      let none : n - k ≡ 0 = omega arith in
-      let at : guard_lengths m k (n - k) ≡ 0 = ap (guard_lengths m k) none in
-      omega (arith, at, inv)
+one_fits : (o : Option Transition) → ((t : Transition) → o ≡ Some t → length t.guard ≤ 32) → guard_length (told o) ≤ 32
+one_fits None h = omega arith
+one_fits (Some t) h = h t refl
+
+pub lengths_fit : (m : Meaning) → Lawful m → (k n : ℕ) → guard_lengths m k n ≤ 32 * n
+unfolding guard_lengths
+lengths_fit m lawful k zero = omega arith
+lengths_fit m lawful k (suc n) =
+    let one = one_fits (m.edge_at k) (λ t e. omega (arith, (lawful.transitions k t e).guard_length, lawful.most)) in
+    omega (arith, one, lengths_fit m lawful (k + 1) n)

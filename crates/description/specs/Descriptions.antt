@@ -10,6 +10,7 @@ use Rattle.property_sheet.specs.Contents.{Content}
 use Rattle.property_sheet.specs.Sheets.{read_property}
 use Rattle.wording.specs.Devices.{device_text}
 use Rattle.wording.specs.Lines.{property_text}
+use Rattle.wording.specs.declared.Refused.{Refused}
 use Rattle.wording.specs.Refusals.{refusal_text}
 
 -- how many conditions the guards of n edges have, from edge e on
@@ -37,6 +38,11 @@ after_device m (Err f) = refusal_text Property f
 abbrev pub described : Result Meaning SheetFault → Result Content SheetFault → List ℕ
 described (Ok m) p = after_device m p
 described (Err f) p = refusal_text Device f
+
+-- what is described once both sheets are loaded, or one is refused
+abbrev pub outcome : Result (Unit {0}) Refused → Meaning → Content → List ℕ
+outcome (Ok u) m s = whole_text m s
+outcome (Err r) m s = refusal_text r.kind r.fault
 
 abbrev pub description : List ℕ → List ℕ
 description b = described (read_device (device_part b)) (read_property (property_part b))

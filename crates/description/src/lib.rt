@@ -4,39 +4,25 @@
 ghost use Rattle.std.specs.Prelude.{◌≡◌, IfOk, string_bytes};
 ghost use Rattle.table.specs.Meanings.{meaning_of};
 ghost use Rattle.property.specs.Contents.{content_of};
-ghost use Rattle.description.specs.Descriptions.{guard_length, guard_lengths, whole_text, closing_text, description};
+ghost use Rattle.device_sheet.specs.Sheets.{read_device};
+ghost use Rattle.property_sheet.specs.Sheets.{read_property};
+ghost use Rattle.description.specs.Descriptions.{guard_lengths, whole_text, described, outcome, description};
 
-use device::{Device, Edge, Number};
+use device::{Device, Number};
 use property::Property;
 use sheet::{Input, SheetKind};
 use std::alloc::{AllocError, Global};
 use table::Table;
 use wording::{Refused, device_text, property_text, refusal_text};
 
-fn guard_length(edge: Option<Edge>) -> u8
-    ensures { result ≡ guard_length edge }
-{
-    match edge {
-        Some(edge) => edge.conditions,
-        None => 0,
-    }
-}
-
 // How many conditions the guards of a device's edges have.
 fn guard_lengths<D: Device>(device: &D, edges: u32) -> u64
     ensures { result ≡ guard_lengths (D.Device.meaning device.now) 0 edges }
 {
-    let mut total = 0u64;
-    for number in 0..edges {
-        total += u64::from(guard_length(device.edge(number)));
-    }
-    total
-}
-
-fn closing(heap: Global, edges: u32, conditions: u64, lines: u8) -> Result<String, AllocError>
-    ensures { IfOk result (λ t. string_bytes t ≡ closing_text edges conditions lines) }
-{
-    format!(in heap; "read: edges {edges}, conditions {conditions}, lines {lines}\n")
+    (0..edges)
+        .filter_map(|number| device.edge(number))
+        .map(|edge| u64::from(edge.conditions))
+        .sum()
 }
 
 fn whole(heap: Global, device: &Table, property: &Property) -> Result<String, AllocError>
@@ -46,8 +32,29 @@ fn whole(heap: Global, device: &Table, property: &Property) -> Result<String, Al
     let property_part = property_text(heap, property)?;
     let edges = device.number(Number::EdgeNumbers);
     let conditions = guard_lengths(device, edges);
-    let closing = closing(heap, edges, conditions, property.line_count())?;
-    format!(in heap; "{device_part}{property_part}{closing}")
+    let lines = property.line_count();
+    format!(in heap;
+        "{device_part}{property_part}read: edges {edges}, conditions {conditions}, lines {lines}\n"
+    )
+}
+
+// Loads both sheets, the device's first.
+fn load<'a>(
+    device: &mut Table<'a>,
+    property: &mut Property,
+    sheets: Input<'a>,
+) -> Result<(), Refused>
+    ensures { outcome result (meaning_of device.new) (content_of property.new) ≡ described (read_device sheets.entry.device.now) (read_property sheets.entry.property.now) }
+{
+    device.load(sheets.device).map_err(|fault| Refused {
+        kind: SheetKind::Device,
+        fault,
+    })?;
+    property.load(sheets.property).map_err(|fault| Refused {
+        kind: SheetKind::Property,
+        fault,
+    })?;
+    Ok(())
 }
 
 /// What a checker's input says: the device, the property and how much was read; or the line that
@@ -55,26 +62,10 @@ fn whole(heap: Global, device: &Table, property: &Property) -> Result<String, Al
 pub fn describe(heap: Global, input: &[u8]) -> Result<String, AllocError>
     ensures { IfOk result (λ t. string_bytes t ≡ description input.now) }
 {
-    let sheets = Input::split(input);
     let mut property = Property::new(heap)?;
     let mut device = Table::new();
-    if let Err(fault) = device.load(sheets.device) {
-        return refusal_text(
-            heap,
-            Refused {
-                kind: SheetKind::Device,
-                fault,
-            },
-        );
+    match load(&mut device, &mut property, Input::split(input)) {
+        Ok(()) => whole(heap, &device, &property),
+        Err(refused) => refusal_text(heap, refused),
     }
-    if let Err(fault) = property.load(sheets.property) {
-        return refusal_text(
-            heap,
-            Refused {
-                kind: SheetKind::Property,
-                fault,
-            },
-        );
-    }
-    whole(heap, &device, &property)
 }

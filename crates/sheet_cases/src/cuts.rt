@@ -1,20 +1,24 @@
 //! Sheets that are cut short, and sheets of the other kind.
 use super::sheets::Sheet;
-use super::verdicts::judge;
+use super::verdicts::{judge, print_verdict};
 use sheet::SheetKind;
 
-fn print_cut(rt: &HostRuntime, base: &Sheet, length: usize) -> anyhow::Result<()> {
+/// A sheet cut short, or filled up, to this length.
+pub(crate) fn print_length(
+    rt: &HostRuntime,
+    base: &Sheet,
+    how: &str,
+    length: usize,
+) -> anyhow::Result<()> {
     let sheet = base.of_length(rt.alloc(), length)?;
-    let verdict = sheet.verdict(rt.alloc())?;
-    let name = sheet.name;
-    println!(rt; "{name}, first {length} bytes: {verdict}")?;
-    Ok(())
+    let change = format!(in rt.alloc(); "{how} {length} bytes")?;
+    print_verdict(rt, &sheet, &change)
 }
 
 // Every length from nothing to the whole sheet.
 fn print_cuts_of(rt: &HostRuntime, base: &Sheet) -> anyhow::Result<()> {
     for length in 0..=base.bytes.len() {
-        print_cut(rt, base, length)?;
+        print_length(rt, base, "first", length)?;
     }
     Ok(())
 }
@@ -22,16 +26,18 @@ fn print_cuts_of(rt: &HostRuntime, base: &Sheet) -> anyhow::Result<()> {
 // A sheet of one kind, loaded as one of the other.
 fn print_as(rt: &HostRuntime, kind: SheetKind, sheet: &Sheet) -> anyhow::Result<()> {
     let verdict = judge(rt.alloc(), kind, sheet.bytes.as_slice())?;
-    let name = sheet.name;
-    let length = sheet.bytes.len();
-    println!(rt; "{name} of {length} bytes as the other kind: {verdict}")?;
+    println!(rt;
+        "{} of {} bytes as the other kind: {verdict}",
+        sheet.name,
+        sheet.bytes.len()
+    )?;
     Ok(())
 }
 
 /// Both base sheets, cut short at every byte; then each as the other kind, short and whole.
 pub(crate) fn print_cuts(rt: &HostRuntime) -> anyhow::Result<()> {
-    let device = Sheet::device(rt.alloc())?;
-    let property = Sheet::property(rt.alloc())?;
+    let device = Sheet::base(rt.alloc(), SheetKind::Device)?;
+    let property = Sheet::base(rt.alloc(), SheetKind::Property)?;
     print_cuts_of(rt, &device)?;
     print_cuts_of(rt, &property)?;
     print_as(rt, SheetKind::Property, &device.of_length(rt.alloc(), 15)?)?;

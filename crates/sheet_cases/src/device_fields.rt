@@ -1,8 +1,8 @@
 //! The bytes that are tried in the base device sheet.
 use super::changes::Field;
 
-/// Letter, nodes, clocks, largest constant, start, edition, and two bytes that are 0.
-pub const DEVICE_HEADER: [Field; 8] = [
+pub const DEVICE_FIELDS: [Field; 58] = [
+    // letter, nodes, clocks, largest constant, start, edition, and two bytes that are 0
     Field(0, &[0, 67, 69, 80, 100]),
     Field(1, &[0, 1, 2, 64, 65, 255]),
     Field(2, &[0, 1, 3, 4, 5, 255]),
@@ -11,10 +11,7 @@ pub const DEVICE_HEADER: [Field; 8] = [
     Field(5, &[0, 1, 3, 255]),
     Field(6, &[1, 255]),
     Field(7, &[1, 255]),
-];
-
-/// Start and length of the edges, then of the conditions.
-pub const DEVICE_DIRECTORY: [Field; 8] = [
+    // start and length of the edges, then of the conditions
     Field(8, &[1, 255]),
     Field(9, &[0, 15, 16, 32, 33, 56, 57, 255]),
     Field(10, &[1, 255]),
@@ -23,10 +20,7 @@ pub const DEVICE_DIRECTORY: [Field; 8] = [
     Field(13, &[0, 39, 40, 52, 53, 255]),
     Field(14, &[1, 255]),
     Field(15, &[0, 16, 19, 21, 22, 23, 24, 25, 255]),
-];
-
-/// Clock, second clock, relation and constant of each condition.
-pub const DEVICE_CONDITIONS: [Field; 20] = [
+    // clock, second clock, relation and constant of each condition
     Field(48, &[1, 2, 255]),
     Field(49, &[0, 1, 2, 254]),
     Field(50, &[0, 4, 5, 255]),
@@ -47,10 +41,7 @@ pub const DEVICE_CONDITIONS: [Field; 20] = [
     Field(65, &[0, 1, 2, 254]),
     Field(66, &[0, 5, 255]),
     Field(67, &[2, 3, 254, 255]),
-];
-
-/// From, to, action, resets, first condition (two bytes), their count, and 0, of each edge.
-pub const DEVICE_EDGES: [Field; 16] = [
+    // from, to, action, resets, first condition (two bytes), their count, and 0, of each edge
     Field(24, &[2, 3, 255]),
     Field(25, &[0, 2, 3, 255]),
     Field(26, &[0, 16, 17, 255]),
@@ -67,10 +58,7 @@ pub const DEVICE_EDGES: [Field; 16] = [
     Field(37, &[0, 3, 5, 6, 255]),
     Field(38, &[0, 4, 8, 9, 255]),
     Field(39, &[1, 255]),
-];
-
-/// Bytes of no section: any value will do.
-pub const DEVICE_FREE: [Field; 6] = [
+    // bytes of no section: any value will do
     Field(16, &[255]),
     Field(23, &[255]),
     Field(40, &[255]),

@@ -33,9 +33,7 @@ const TOLD: [[u8; 2]; 8] = [
 ];
 
 fn print_short(rt: &HostRuntime, bytes: &[u8]) -> anyhow::Result<()> {
-    let input = Input::split(bytes);
-    let device = input.device;
-    let property = input.property;
+    let Input { device, property } = Input::split(bytes);
     let device_length = device.len();
     let property_length = property.len();
     println!(rt;
@@ -46,8 +44,8 @@ fn print_short(rt: &HostRuntime, bytes: &[u8]) -> anyhow::Result<()> {
 
 fn both_sheets(heap: Global, told: [u8; 2]) -> Result<Vec<u8>, AllocError> {
     let mut bytes = Vec::from_slice(heap, &told)?;
-    bytes.extend_from_slice(Sheet::device(heap)?.bytes.as_slice())?;
-    bytes.extend_from_slice(Sheet::property(heap)?.bytes.as_slice())?;
+    bytes.extend_from_slice(Sheet::base(heap, SheetKind::Device)?.bytes.as_slice())?;
+    bytes.extend_from_slice(Sheet::base(heap, SheetKind::Property)?.bytes.as_slice())?;
     Ok(bytes)
 }
 
@@ -67,11 +65,11 @@ fn print_told(rt: &HostRuntime, told: [u8; 2]) -> anyhow::Result<()> {
 
 /// Short inputs, and inputs of both base sheets.
 pub(crate) fn print_inputs(rt: &HostRuntime) -> anyhow::Result<()> {
-    for bytes in SHORT.iter() {
+    for bytes in SHORT {
         print_short(rt, bytes)?;
     }
-    for told in TOLD.iter() {
-        print_told(rt, *told)?;
+    for told in TOLD {
+        print_told(rt, told)?;
     }
     Ok(())
 }

@@ -1,9 +1,8 @@
 //! A sheet that is refused changes nothing: the base sheet is loaded, then another one.
 use super::sheets::{Change, Sheet};
-use super::verdicts::Verdict;
-use device::{Device, Number};
-use property::Property;
-use table::Table;
+use super::verdicts::{Held, records_of};
+use sheet::SheetKind;
+use wording::InWords;
 
 // A third edge, with a byte that is right or that breaks a limit, from refusal 2 to refusal 7.
 const THREE_EDGES: [[Change; 2]; 7] = [
@@ -27,77 +26,35 @@ const ELEVEN_LINES: [[Change; 2]; 7] = [
     [Change(11, 44), Change(20, 10)],
 ];
 
-// What came of a load, and how many edges or lines there are after it.
-#[derive(Clone, Copy)]
-struct Step {
-    verdict: Verdict,
-    count: u32,
-}
-
-fn load_device<'a>(table: &mut Table<'a>, sheet: &'a Sheet) -> Step {
-    let verdict = Verdict::of(sheet.kind, table.load(sheet.bytes.as_slice()));
-    let count = table.number(Number::EdgeNumbers);
-    Step { verdict, count }
-}
-
-fn load_property(property: &mut Property, sheet: &Sheet) -> Step {
-    let verdict = Verdict::of(sheet.kind, property.load(sheet.bytes.as_slice()));
-    let count = u32::from(property.line_count());
-    Step { verdict, count }
-}
-
-fn print_steps(rt: &HostRuntime, noun: &str, start: u32, steps: [Step; 2]) -> anyhow::Result<()> {
-    let [first, second] = steps;
-    let once = first.verdict;
-    let before = first.count;
-    let twice = second.verdict;
-    let after = second.count;
+// Loads one sheet after the other, and prints how many edges or lines there are at each step.
+fn print_loads(rt: &HostRuntime, first: &Sheet, second: &Sheet) -> anyhow::Result<()> {
+    let mut held = Held::new(rt.alloc(), first.kind)?;
+    let start = held.count();
+    let once = held.load(first.bytes.as_slice());
+    let before = held.count();
+    let twice = held.load(second.bytes.as_slice());
+    let after = held.count();
+    let kind = InWords(first.kind);
+    let noun = records_of(first.kind);
     println!(rt;
-        "{noun} {start}; first sheet {once}: {noun} {before}; second sheet {twice}: {noun} {after}"
+        "{kind} {noun} {start}; first sheet {once}: {kind} {noun} {before}; second sheet {twice}: {kind} {noun} {after}"
     )?;
     Ok(())
 }
 
-fn print_devices<'a>(rt: &HostRuntime, first: &'a Sheet, second: &'a Sheet) -> anyhow::Result<()> {
-    let start = Table::new().number(Number::EdgeNumbers);
-    let mut table = Table::new();
-    let once = load_device(&mut table, first);
-    let twice = load_device(&mut table, second);
-    print_steps(rt, "device edges", start, [once, twice])
-}
-
-fn print_properties(rt: &HostRuntime, first: &Sheet, second: &Sheet) -> anyhow::Result<()> {
-    let mut property = Property::new(rt.alloc())?;
-    let start = u32::from(property.line_count());
-    let once = load_property(&mut property, first);
-    let twice = load_property(&mut property, second);
-    print_steps(rt, "property lines", start, [once, twice])
-}
-
-fn print_kept_devices(rt: &HostRuntime) -> anyhow::Result<()> {
-    let base = Sheet::device(rt.alloc())?;
-    for changes in THREE_EDGES.iter() {
-        print_devices(rt, &base, &base.with(rt.alloc(), changes)?)?;
+fn print_kept_of(rt: &HostRuntime, kind: SheetKind, cases: &[[Change; 2]]) -> anyhow::Result<()> {
+    let base = Sheet::base(rt.alloc(), kind)?;
+    for changes in cases {
+        print_loads(rt, &base, &base.with(rt.alloc(), changes)?)?;
     }
     let short = base.of_length(rt.alloc(), 15)?;
-    print_devices(rt, &base, &short)?;
-    print_devices(rt, &short, &short)?;
-    print_devices(rt, &short, &base)
-}
-
-fn print_kept_properties(rt: &HostRuntime) -> anyhow::Result<()> {
-    let base = Sheet::property(rt.alloc())?;
-    for changes in ELEVEN_LINES.iter() {
-        print_properties(rt, &base, &base.with(rt.alloc(), changes)?)?;
-    }
-    let short = base.of_length(rt.alloc(), 15)?;
-    print_properties(rt, &base, &short)?;
-    print_properties(rt, &short, &short)?;
-    print_properties(rt, &short, &base)
+    print_loads(rt, &base, &short)?;
+    print_loads(rt, &short, &short)?;
+    print_loads(rt, &short, &base)
 }
 
 /// Tables and properties that are loaded twice.
 pub(crate) fn print_kept(rt: &HostRuntime) -> anyhow::Result<()> {
-    print_kept_devices(rt)?;
-    print_kept_properties(rt)
+    print_kept_of(rt, SheetKind::Device, &THREE_EDGES)?;
+    print_kept_of(rt, SheetKind::Property, &ELEVEN_LINES)
 }

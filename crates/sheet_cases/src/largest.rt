@@ -2,22 +2,18 @@
 //! they are read as.
 use super::changes::{Field, print_fields};
 use super::orders::print_pairs;
-use super::records::{Counts, full_device, full_property};
-use super::sheets::Change;
-use device::{Device, Number};
+use super::records::{Counts, full};
+use super::sheets::{Change, Sheet};
+use super::verdicts::Held;
+use device::{Device, Edge, Number};
 use property::{Line, Property};
+use sheet::SheetKind;
 use table::Table;
 use wording::InWords;
 
-const MOST_IN_DEVICE: Counts = Counts {
-    records: 256,
-    conditions: 1024,
-};
+const MOST_IN_DEVICE: Counts = Counts(256, 1024);
 
-const MOST_IN_PROPERTY: Counts = Counts {
-    records: 200,
-    conditions: 1024,
-};
+const MOST_IN_PROPERTY: Counts = Counts(200, 1024);
 
 // The count of edge 0, every field of edge 255, and of condition 1023.
 const DEVICE_LAST: [Field; 13] = [
@@ -83,11 +79,14 @@ fn print_edge(rt: &HostRuntime, table: &Table, number: u32) -> anyhow::Result<()
         println!(rt; "full device, edge {number}: none")?;
         return Ok(());
     };
-    let source = edge.source;
-    let target = edge.target;
-    let action = edge.action;
-    let resets = edge.resets.bits;
-    let conditions = edge.conditions;
+    let Edge {
+        source,
+        target,
+        action,
+        resets,
+        conditions,
+    } = edge;
+    let resets = resets.bits;
     println!(rt;
         "full device, edge {number}: from node {source} to node {target}, action {action}, resets {resets}, conditions {conditions}"
     )?;
@@ -96,10 +95,10 @@ fn print_edge(rt: &HostRuntime, table: &Table, number: u32) -> anyhow::Result<()
 
 fn print_condition(rt: &HostRuntime, table: &Table, number: u32, place: u32) -> anyhow::Result<()> {
     match table.condition(number, place) {
-        Some(condition) => {
-            let condition = InWords(condition);
-            println!(rt; "full device, edge {number}, condition {place}: {condition}")?;
-        }
+        Some(condition) => println!(rt;
+            "full device, edge {number}, condition {place}: {}",
+            InWords(condition)
+        )?,
         None => println!(rt; "full device, edge {number}, condition {place}: none")?,
     }
     Ok(())
@@ -118,21 +117,10 @@ fn print_table(rt: &HostRuntime, table: &Table) -> anyhow::Result<()> {
     print_condition(rt, table, 256, 0)
 }
 
-fn print_full_device(rt: &HostRuntime) -> anyhow::Result<()> {
-    let sheet = full_device(rt.alloc(), MOST_IN_DEVICE)?;
-    let mut table = Table::new();
-    if table.load(sheet.bytes.as_slice()).is_ok() {
-        print_table(rt, &table)?;
-    }
-    print_fields(rt, &sheet, &DEVICE_LAST)?;
-    print_pairs(rt, &sheet, &DEVICE_GUARDS)
-}
-
 fn print_line(rt: &HostRuntime, property: &Property, number: u8) -> anyhow::Result<()> {
     match property.line(number) {
         Some(Line::Holds(condition)) => {
-            let condition = InWords(condition);
-            println!(rt; "full property, line {number}: {condition}")?;
+            println!(rt; "full property, line {number}: {}", InWords(condition))?
         }
         Some(_) => println!(rt; "full property, line {number}: no condition")?,
         None => println!(rt; "full property, line {number}: none")?,
@@ -151,18 +139,27 @@ fn print_property(rt: &HostRuntime, property: &Property) -> anyhow::Result<()> {
     print_line(rt, property, 255)
 }
 
-fn print_full_property(rt: &HostRuntime) -> anyhow::Result<()> {
-    let sheet = full_property(rt.alloc(), MOST_IN_PROPERTY)?;
-    let mut property = Property::new(rt.alloc())?;
-    if property.load(sheet.bytes.as_slice()).is_ok() {
-        print_property(rt, &property)?;
+fn print_full(
+    rt: &HostRuntime,
+    sheet: &Sheet,
+    fields: &[Field],
+    pairs: &[[Change; 2]],
+) -> anyhow::Result<()> {
+    let mut held = Held::new(rt.alloc(), sheet.kind)?;
+    if held.load(sheet.bytes.as_slice()).0.is_ok() {
+        match &held {
+            Held::Device(table) => print_table(rt, table)?,
+            Held::Property(property) => print_property(rt, property)?,
+        }
     }
-    print_fields(rt, &sheet, &PROPERTY_LAST)?;
-    print_pairs(rt, &sheet, &PROPERTY_NUMBERS)
+    print_fields(rt, sheet, fields)?;
+    print_pairs(rt, sheet, pairs)
 }
 
 /// The full device and the full property.
 pub(crate) fn print_largest(rt: &HostRuntime) -> anyhow::Result<()> {
-    print_full_device(rt)?;
-    print_full_property(rt)
+    let device = full(rt.alloc(), SheetKind::Device, MOST_IN_DEVICE)?;
+    print_full(rt, &device, &DEVICE_LAST, &DEVICE_GUARDS)?;
+    let property = full(rt.alloc(), SheetKind::Property, MOST_IN_PROPERTY)?;
+    print_full(rt, &property, &PROPERTY_LAST, &PROPERTY_NUMBERS)
 }

@@ -1,63 +1,29 @@
 //! Sheets as long, and with as many records, as they may be, and sheets past that.
+use super::cuts::print_length;
 use super::orders::print_pairs;
-use super::records::{Counts, full_device, full_property};
+use super::records::{Counts, full};
 use super::sheets::{Change, Sheet};
+use super::verdicts::{judge, records_of};
+use sheet::SheetKind;
+use wording::InWords;
 
 // The last two are 72 and 76, the lengths of the base sheets, to a count that wraps at 65536.
 const LENGTHS: [usize; 5] = [65534, 65535, 65536, 65608, 65612];
 
-const DEVICE_COUNTS: [Counts; 6] = [
-    Counts {
-        records: 0,
-        conditions: 0,
-    },
-    Counts {
-        records: 0,
-        conditions: 1024,
-    },
-    Counts {
-        records: 256,
-        conditions: 1024,
-    },
-    Counts {
-        records: 257,
-        conditions: 1024,
-    },
-    Counts {
-        records: 256,
-        conditions: 1025,
-    },
-    Counts {
-        records: 257,
-        conditions: 1025,
-    },
-];
-
-const PROPERTY_COUNTS: [Counts; 6] = [
-    Counts {
-        records: 0,
-        conditions: 1024,
-    },
-    Counts {
-        records: 1,
-        conditions: 0,
-    },
-    Counts {
-        records: 200,
-        conditions: 1024,
-    },
-    Counts {
-        records: 201,
-        conditions: 1024,
-    },
-    Counts {
-        records: 200,
-        conditions: 1025,
-    },
-    Counts {
-        records: 201,
-        conditions: 1025,
-    },
+// As many records as there may be, and one more.
+const COUNTS: [(SheetKind, Counts); 12] = [
+    (SheetKind::Device, Counts(0, 0)),
+    (SheetKind::Device, Counts(0, 1024)),
+    (SheetKind::Device, Counts(256, 1024)),
+    (SheetKind::Device, Counts(257, 1024)),
+    (SheetKind::Device, Counts(256, 1025)),
+    (SheetKind::Device, Counts(257, 1025)),
+    (SheetKind::Property, Counts(0, 1024)),
+    (SheetKind::Property, Counts(1, 0)),
+    (SheetKind::Property, Counts(200, 1024)),
+    (SheetKind::Property, Counts(201, 1024)),
+    (SheetKind::Property, Counts(200, 1025)),
+    (SheetKind::Property, Counts(201, 1025)),
 ];
 
 // A section of conditions at the end of a sheet of 65535 bytes, where there are only zeros: it
@@ -74,44 +40,20 @@ const FAR_PROPERTY: [[Change; 2]; 3] = [
     [Change(12, 255), Change(13, 255)],
 ];
 
-fn print_length(rt: &HostRuntime, base: &Sheet, length: usize) -> anyhow::Result<()> {
-    let sheet = base.of_length(rt.alloc(), length)?;
-    let verdict = sheet.verdict(rt.alloc())?;
-    let name = sheet.name;
-    println!(rt; "{name}, filled up to {length} bytes: {verdict}")?;
-    Ok(())
-}
-
 fn print_lengths(rt: &HostRuntime, base: &Sheet) -> anyhow::Result<()> {
-    for length in LENGTHS.iter() {
-        print_length(rt, base, *length)?;
+    for length in LENGTHS {
+        print_length(rt, base, "filled up to", length)?;
     }
     Ok(())
 }
 
-fn print_device_counts(rt: &HostRuntime, counts: Counts) -> anyhow::Result<()> {
-    let verdict = full_device(rt.alloc(), counts)?.verdict(rt.alloc())?;
-    let edges = counts.records;
-    let conditions = counts.conditions;
-    println!(rt; "device of {edges} edges and {conditions} conditions: {verdict}")?;
-    Ok(())
-}
-
-fn print_property_counts(rt: &HostRuntime, counts: Counts) -> anyhow::Result<()> {
-    let verdict = full_property(rt.alloc(), counts)?.verdict(rt.alloc())?;
-    let lines = counts.records;
-    let conditions = counts.conditions;
-    println!(rt; "property of {lines} lines and {conditions} conditions: {verdict}")?;
-    Ok(())
-}
-
-fn print_counts(rt: &HostRuntime) -> anyhow::Result<()> {
-    for counts in DEVICE_COUNTS.iter() {
-        print_device_counts(rt, *counts)?;
-    }
-    for counts in PROPERTY_COUNTS.iter() {
-        print_property_counts(rt, *counts)?;
-    }
+fn print_counts(rt: &HostRuntime, kind: SheetKind, counts: Counts) -> anyhow::Result<()> {
+    let sheet = full(rt.alloc(), kind, counts)?;
+    let verdict = judge(rt.alloc(), kind, sheet.bytes.as_slice())?;
+    let name = InWords(kind);
+    let noun = records_of(kind);
+    let Counts(records, conditions) = counts;
+    println!(rt; "{name} of {records} {noun} and {conditions} conditions: {verdict}")?;
     Ok(())
 }
 
@@ -129,11 +71,14 @@ fn print_far(
 
 /// Lengths of sheets, counts of records, and sections far out.
 pub(crate) fn print_limits(rt: &HostRuntime) -> anyhow::Result<()> {
-    let device = Sheet::device(rt.alloc())?;
-    let property = Sheet::property(rt.alloc())?;
+    let device = Sheet::base(rt.alloc(), SheetKind::Device)?;
+    let property = Sheet::base(rt.alloc(), SheetKind::Property)?;
     print_lengths(rt, &device)?;
     print_lengths(rt, &property)?;
     print_far(rt, &device, "longest device", &FAR_DEVICE)?;
     print_far(rt, &property, "longest property", &FAR_PROPERTY)?;
-    print_counts(rt)
+    for (kind, counts) in COUNTS {
+        print_counts(rt, kind, counts)?;
+    }
+    Ok(())
 }

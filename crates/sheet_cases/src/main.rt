@@ -1,6 +1,7 @@
 //! Sheets that are accepted, and sheets that are refused: one line for each case.
 #![tactic(auto)]
 
+// Kept: the runtime stands beside a sheet or a table, since a function that prints is passed it.
 mod changes;
 mod cuts;
 mod device_fields;

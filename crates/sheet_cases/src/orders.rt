@@ -1,6 +1,8 @@
 //! Sheets with two bytes changed. Of two faults the one with the lower number is told, and of two
 //! with one number the one at the lower place.
 use super::sheets::{Change, Sheet};
+use super::verdicts::print_verdict;
+use sheet::SheetKind;
 
 const DEVICE_PAIRS: [[Change; 2]; 24] = [
     // letter and header, letter and bounds, letter and condition, letter and edge
@@ -100,33 +102,27 @@ const PROPERTY_TOGETHER: [[Change; 2]; 5] = [
     [Change(11, 44), Change(29, 10)],
 ];
 
-fn print_pair(rt: &HostRuntime, base: &Sheet, pair: [Change; 2]) -> anyhow::Result<()> {
-    let sheet = base.with(rt.alloc(), &pair)?;
-    let verdict = sheet.verdict(rt.alloc())?;
-    let name = sheet.name;
-    let [Change(place, byte), Change(second, other)] = pair;
-    println!(rt; "{name}, byte {place} is {byte} and byte {second} is {other}: {verdict}")?;
-    Ok(())
-}
-
 /// A line for each pair.
 pub(crate) fn print_pairs(
     rt: &HostRuntime,
     base: &Sheet,
     pairs: &[[Change; 2]],
 ) -> anyhow::Result<()> {
-    for pair in pairs.iter() {
-        print_pair(rt, base, *pair)?;
+    for pair in pairs {
+        let sheet = base.with(rt.alloc(), pair)?;
+        let [Change(place, byte), Change(second, other)] = *pair;
+        let change = format!(in rt.alloc(); "byte {place} is {byte} and byte {second} is {other}")?;
+        print_verdict(rt, &sheet, &change)?;
     }
     Ok(())
 }
 
 /// Both base sheets with two bytes changed.
 pub(crate) fn print_orders(rt: &HostRuntime) -> anyhow::Result<()> {
-    let device = Sheet::device(rt.alloc())?;
-    let property = Sheet::property(rt.alloc())?;
+    let device = Sheet::base(rt.alloc(), SheetKind::Device)?;
     print_pairs(rt, &device, &DEVICE_PAIRS)?;
     print_pairs(rt, &device, &DEVICE_TOGETHER)?;
+    let property = Sheet::base(rt.alloc(), SheetKind::Property)?;
     print_pairs(rt, &property, &PROPERTY_PAIRS)?;
     print_pairs(rt, &property, &PROPERTY_TOGETHER)
 }

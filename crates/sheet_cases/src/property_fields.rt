@@ -1,8 +1,8 @@
 //! The bytes that are tried in the base property sheet.
 use super::changes::Field;
 
-/// Letter, 0, clocks, largest constant, 0, edition, and two bytes that are 0.
-pub const PROPERTY_HEADER: [Field; 8] = [
+pub const PROPERTY_FIELDS: [Field; 70] = [
+    // letter, 0, clocks, largest constant, 0, edition, and two bytes that are 0
     Field(0, &[0, 68, 79, 81, 112]),
     Field(1, &[1, 255]),
     Field(2, &[0, 1, 3, 255]),
@@ -11,10 +11,7 @@ pub const PROPERTY_HEADER: [Field; 8] = [
     Field(5, &[0, 1, 3, 255]),
     Field(6, &[1, 255]),
     Field(7, &[1, 255]),
-];
-
-/// Start and length of the lines, then of the conditions.
-pub const PROPERTY_DIRECTORY: [Field; 8] = [
+    // start and length of the lines, then of the conditions
     Field(8, &[1, 255]),
     Field(9, &[0, 15, 16, 24, 25, 36, 37, 255]),
     Field(10, &[1, 255]),
@@ -23,10 +20,7 @@ pub const PROPERTY_DIRECTORY: [Field; 8] = [
     Field(13, &[0, 59, 60, 68, 69, 255]),
     Field(14, &[1, 255]),
     Field(15, &[0, 4, 7, 9, 10, 11, 12, 13, 255]),
-];
-
-/// Clock, second clock, relation and constant of each condition.
-pub const PROPERTY_CONDITIONS: [Field; 8] = [
+    // clock, second clock, relation and constant of each condition
     Field(64, &[1, 2, 255]),
     Field(65, &[0, 1, 2, 254]),
     Field(66, &[0, 4, 5, 255]),
@@ -35,10 +29,7 @@ pub const PROPERTY_CONDITIONS: [Field; 8] = [
     Field(69, &[1, 2, 254, 255]),
     Field(70, &[0, 4, 5, 255]),
     Field(71, &[0, 2, 3, 127, 128, 253, 255]),
-];
-
-/// Kind, two operands and 0 of each line.
-pub const PROPERTY_LINES: [Field; 40] = [
+    // kind, two operands and 0 of each line
     // true
     Field(20, &[1, 2, 3, 4, 5, 6, 7, 8, 9, 10, 255]),
     Field(21, &[1, 255]),
@@ -89,10 +80,7 @@ pub const PROPERTY_LINES: [Field; 40] = [
     Field(57, &[1, 255]),
     Field(58, &[0, 2, 255]),
     Field(59, &[1, 255]),
-];
-
-/// Bytes of no section: any value will do.
-pub const PROPERTY_FREE: [Field; 6] = [
+    // bytes of no section: any value will do
     Field(16, &[255]),
     Field(19, &[255]),
     Field(60, &[255]),

@@ -5,10 +5,7 @@ use std::alloc::{AllocError, Global};
 
 /// How many edges or lines a sheet has, and how many conditions.
 #[derive(Clone, Copy)]
-pub struct Counts {
-    pub records: u16,
-    pub conditions: u16,
-}
+pub struct Counts(pub u16, pub u16);
 
 // Edge `e` between 64 nodes. Its guard is 8 conditions; that of the next edge begins 4 later, and
 // that of edge 255 ends with condition 1023.
@@ -29,6 +26,7 @@ fn edge_record(e: u16) -> [u8; 8] {
 // Line `k` of 200: the kinds in turn. A line that is a condition is condition 1023.
 fn line_record(k: u16) -> [u8; 4] {
     let line = (k % 200) as u8;
+    // Kept: the kinds are the bytes of the sheet's format, which the cases spell out by themselves.
     match k % 10 {
         0 => [0, 0, 0, 0],
         1 => [1, 0, 0, 0],
@@ -65,50 +63,32 @@ fn condition_record(kind: SheetKind, k: u16) -> [u8; 4] {
 
 // Where the two sections stand: one after the other, right behind the directory.
 fn directory(record_size: u8, counts: Counts) -> [u8; 8] {
-    let length = u32::from(record_size) * u32::from(counts.records);
+    let Counts(records, conditions) = counts;
+    let length = u32::from(record_size) * u32::from(records);
     let [_, _, a, b] = length.to_be_bytes();
     let [_, _, c, d] = (16 + length).to_be_bytes();
-    let [_, _, e, f] = (4 * u32::from(counts.conditions)).to_be_bytes();
+    let [_, _, e, f] = (4 * u32::from(conditions)).to_be_bytes();
     [0, 16, a, b, c, d, e, f]
 }
 
-fn add_conditions(sheet: &mut Sheet, count: u16) -> Result<(), AllocError> {
-    for k in 0..count {
-        sheet
-            .bytes
-            .extend_from_slice(&condition_record(sheet.kind, k))?;
-    }
-    Ok(())
-}
-
-/// A device sheet of 64 nodes and 4 clocks.
-pub(crate) fn full_device(heap: Global, counts: Counts) -> Result<Sheet, AllocError> {
-    let mut bytes = Vec::from_slice(heap, &[b'D', 64, 4, 15, 63, 2, 0, 0])?;
-    bytes.extend_from_slice(&directory(8, counts))?;
-    for e in 0..counts.records {
-        bytes.extend_from_slice(&edge_record(e))?;
-    }
-    let mut sheet = Sheet {
-        name: "full device",
-        kind: SheetKind::Device,
-        bytes,
+/// A device sheet of 64 nodes and 4 clocks, or a property sheet of 2 clocks.
+pub(crate) fn full(heap: Global, kind: SheetKind, counts: Counts) -> Result<Sheet, AllocError> {
+    let (name, header, record_size) = match kind {
+        SheetKind::Device => ("full device", [b'D', 64, 4, 15, 63, 2, 0, 0], 8),
+        SheetKind::Property => ("full property", [b'P', 0, 2, 15, 0, 2, 0, 0], 4),
     };
-    add_conditions(&mut sheet, counts.conditions)?;
-    Ok(sheet)
-}
-
-/// A property sheet of 2 clocks.
-pub(crate) fn full_property(heap: Global, counts: Counts) -> Result<Sheet, AllocError> {
-    let mut bytes = Vec::from_slice(heap, &[b'P', 0, 2, 15, 0, 2, 0, 0])?;
-    bytes.extend_from_slice(&directory(4, counts))?;
-    for k in 0..counts.records {
-        bytes.extend_from_slice(&line_record(k))?;
+    let Counts(records, conditions) = counts;
+    let mut bytes = Vec::from_slice(heap, &header)?;
+    bytes.extend_from_slice(&directory(record_size, counts))?;
+    // Kept: each record may fail to be added for want of memory, which a `for` hands on by `?`.
+    for k in 0..records {
+        match kind {
+            SheetKind::Device => bytes.extend_from_slice(&edge_record(k))?,
+            SheetKind::Property => bytes.extend_from_slice(&line_record(k))?,
+        }
     }
-    let mut sheet = Sheet {
-        name: "full property",
-        kind: SheetKind::Property,
-        bytes,
-    };
-    add_conditions(&mut sheet, counts.conditions)?;
-    Ok(sheet)
+    for k in 0..conditions {
+        bytes.extend_from_slice(&condition_record(kind, k))?;
+    }
+    Ok(Sheet { name, kind, bytes })
 }

@@ -1,5 +1,4 @@
 //! Sheets to load: the two base sheets, and what is made of them.
-use super::verdicts::{Verdict, judge};
 use sheet::SheetKind;
 use std::alloc::{AllocError, Global};
 
@@ -62,41 +61,26 @@ const PROPERTY: [[u8; 4]; 19] = [
     [0, 255, 0, 1], // 72: free
 ];
 
-fn joined(heap: Global, rows: &[[u8; 4]]) -> Result<Vec<u8>, AllocError> {
-    let mut bytes = Vec::new(heap);
-    for row in rows.iter() {
-        bytes.extend_from_slice(row)?;
-    }
-    Ok(bytes)
-}
-
 impl Sheet {
-    /// The base device sheet.
-    pub(crate) fn device(heap: Global) -> Result<Sheet, AllocError> {
-        let bytes = joined(heap, &DEVICE)?;
+    /// The base sheet of this kind.
+    pub(crate) fn base(heap: Global, kind: SheetKind) -> Result<Sheet, AllocError> {
+        let (name, rows) = match kind {
+            SheetKind::Device => ("device", DEVICE.as_slice()),
+            SheetKind::Property => ("property", PROPERTY.as_slice()),
+        };
         Ok(Sheet {
-            name: "device",
-            kind: SheetKind::Device,
-            bytes,
-        })
-    }
-
-    /// The base property sheet.
-    pub(crate) fn property(heap: Global) -> Result<Sheet, AllocError> {
-        let bytes = joined(heap, &PROPERTY)?;
-        Ok(Sheet {
-            name: "property",
-            kind: SheetKind::Property,
-            bytes,
+            name,
+            kind,
+            bytes: rows.concat(heap)?,
         })
     }
 
     /// A copy with some bytes changed; a change past the end is left out.
     pub(crate) fn with(&self, heap: Global, changes: &[Change]) -> Result<Sheet, AllocError> {
         let mut bytes = Vec::from_slice(heap, self.bytes.as_slice())?;
-        for Change(place, byte) in changes.iter() {
-            if let Some(old) = bytes.get_mut(*place) {
-                *old = *byte;
+        for &Change(place, byte) in changes {
+            if let Some(old) = bytes.get_mut(place) {
+                *old = byte;
             }
         }
         Ok(Sheet {
@@ -115,10 +99,5 @@ impl Sheet {
             kind: self.kind,
             bytes,
         })
-    }
-
-    /// Whether the sheet is accepted.
-    pub(crate) fn verdict(&self, heap: Global) -> Result<Verdict, AllocError> {
-        judge(heap, self.kind, self.bytes.as_slice())
     }
 }

@@ -1,127 +1,108 @@
 //! Devices in words.
-ghost use Rattle.std.specs.Prelude.{◌≡◌, ◌<◌, ◌≤◌, ◌++◌, IfOk, string_bytes, OnOk};
-ghost use Rattle.device.specs.Meaning.{condition_of};
-ghost use Rattle.wording.specs.Texts.{texts};
-ghost use Rattle.wording.specs.Devices.{numbers_text, clause_text, reset_clause, reset_text, ends_text, edge_line, edge_text, device_text};
+ghost use Rattle.std.specs.Prelude.{◌≡◌, IfOk, Some, string_bytes};
+ghost use Rattle.wording.specs.Devices.{clause_text, reset_text, edge_text, device_text};
 
 use super::InWords;
-use super::append::append;
+use super::each::write_each;
 use device::{ClockSet, Condition, Device, Edge, Number};
 use std::alloc::{AllocError, Global};
+use std::fmt;
 
-fn clause(heap: Global, condition: Option<Condition>) -> Result<String, AllocError>
-    ensures { IfOk result (λ t. string_bytes t ≡ clause_text condition) }
-{
-    match condition {
-        Some(condition) => {
-            let condition = InWords(condition);
-            format!(in heap; ", when {condition}")
+/// A condition of a guard; nothing where there is none.
+#[derive(Drop)]
+struct Clause(Option<Condition>);
+
+impl fmt::Display for Clause {
+    ghost output = { λ c. Some (clause_text c.0) };
+
+    fn fmt<W: fmt::Write>(&self, f: &mut fmt::Formatter<W>) -> fmt::Result {
+        if let Some(condition) = self.0 {
+            write!(f, ", when {}", InWords(condition))?;
         }
-        None => Ok(String::new(heap)),
+        Ok(())
     }
 }
 
-fn reset_clause(heap: Global, resets: bool, clock: u8) -> Result<String, AllocError>
-    ensures { IfOk result (λ t. string_bytes t ≡ reset_clause resets clock) }
-{
-    if resets {
-        format!(in heap; ", reset clock {clock}")
-    } else {
-        Ok(String::new(heap))
+/// A clock that an edge resets; nothing if it is not in the edge's set.
+#[derive(Drop)]
+struct Reset {
+    resets: ClockSet,
+    clock: u8,
+}
+
+impl fmt::Display for Reset {
+    ghost output = { λ r. Some (reset_text r.resets.bits r.clock) };
+
+    fn fmt<W: fmt::Write>(&self, f: &mut fmt::Formatter<W>) -> fmt::Result {
+        let clock = self.clock;
+        if self.resets.contains(clock) {
+            write!(f, ", reset clock {clock}")?;
+        }
+        Ok(())
     }
 }
 
-fn add_guard<D: Device>(
-    heap: Global,
-    out: &mut String,
-    device: &D,
+/// The edge with this number; nothing where the device tells none.
+#[derive(Drop)]
+struct NumberedEdge<'a, D> {
+    device: &'a D,
     number: u32,
-    count: u8,
-) -> Result<(), AllocError>
-    ensures { OnOk result (string_bytes out.new ≡ string_bytes out.old ++ texts (λ i. clause_text (condition_of (D.Device.meaning device.now) number i)) 0 count) }
-{
-    for place in 0..count {
-        append(out, clause(heap, device.condition(number, place as u32))?)?;
+}
+
+impl<D: Device> fmt::Display for NumberedEdge<'_, D> {
+    ghost output = { λ e. Some (edge_text (D.Device.meaning e.device.now) e.number) };
+
+    fn fmt<W: fmt::Write>(&self, f: &mut fmt::Formatter<W>) -> fmt::Result {
+        let device = self.device;
+        let number = self.number;
+        let Some(edge) = device.edge(number) else {
+            return Ok(());
+        };
+        let Edge {
+            source,
+            target,
+            action,
+            resets,
+            conditions,
+        } = edge;
+        write!(
+            f,
+            "edge {number}: from node {source} to node {target}, action {action}"
+        )?;
+        write_each(
+            f,
+            (0..conditions).map(|place| Clause(device.condition(number, u32::from(place)))),
+        )?;
+        write_each(f, (0..8).map(|clock| Reset { resets, clock }))?;
+        writeln!(f)
     }
-    Ok(())
 }
 
-fn add_resets(heap: Global, out: &mut String, resets: ClockSet) -> Result<(), AllocError>
-    ensures { OnOk result (string_bytes out.new ≡ string_bytes out.old ++ texts (reset_text resets.bits) 0 8) }
-{
-    for clock in 0..8u8 {
-        append(out, reset_clause(heap, resets.contains(clock), clock)?)?;
+/// A device: its numbers, then each edge that it tells.
+#[derive(Drop)]
+struct WholeDevice<'a, D>(&'a D);
+
+impl<D: Device> fmt::Display for WholeDevice<'_, D> {
+    ghost output = { λ d. Some (device_text (D.Device.meaning d.0.now)) };
+
+    fn fmt<W: fmt::Write>(&self, f: &mut fmt::Formatter<W>) -> fmt::Result {
+        let device = self.0;
+        let nodes = device.number(Number::Nodes);
+        let start = device.number(Number::Start);
+        let clocks = device.number(Number::Clocks);
+        let constant = device.number(Number::LargestConstant);
+        let edges = device.number(Number::EdgeNumbers);
+        writeln!(
+            f,
+            "device: nodes {nodes}, start {start}, clocks {clocks}, largest constant {constant}, edges {edges}"
+        )?;
+        write_each(f, (0..edges).map(|number| NumberedEdge { device, number }))
     }
-    Ok(())
-}
-
-fn ends(heap: Global, number: u32, edge: Edge) -> Result<String, AllocError>
-    ensures { IfOk result (λ t. string_bytes t ≡ ends_text number edge) }
-{
-    let source = edge.source;
-    let target = edge.target;
-    let action = edge.action;
-    format!(in heap; "edge {number}: from node {source} to node {target}, action {action}")
-}
-
-fn add_edge<D: Device>(
-    heap: Global,
-    out: &mut String,
-    device: &D,
-    number: u32,
-    edge: Option<Edge>,
-) -> Result<(), AllocError>
-    ensures { OnOk result (string_bytes out.new ≡ string_bytes out.old ++ edge_line (D.Device.meaning device.now) number edge) }
-{
-    let Some(edge) = edge else {
-        return Ok(());
-    };
-    append(out, ends(heap, number, edge)?)?;
-    add_guard(heap, out, device, number, edge.conditions)?;
-    add_resets(heap, out, edge.resets)?;
-    out.push_str("\n")?;
-    Ok(())
-}
-
-fn add_edges<D: Device>(
-    heap: Global,
-    out: &mut String,
-    device: &D,
-    count: u32,
-) -> Result<(), AllocError>
-    ensures { OnOk result (string_bytes out.new ≡ string_bytes out.old ++ texts (edge_text (D.Device.meaning device.now)) 0 count) }
-{
-    for number in 0..count {
-        add_edge(heap, out, device, number, device.edge(number))?;
-    }
-    Ok(())
-}
-
-fn numbers(
-    heap: Global,
-    nodes: u32,
-    start: u32,
-    clocks: u32,
-    constant: u32,
-    edges: u32,
-) -> Result<String, AllocError>
-    ensures { IfOk result (λ t. string_bytes t ≡ numbers_text nodes start clocks constant edges) }
-{
-    format!(in heap;
-        "device: nodes {nodes}, start {start}, clocks {clocks}, largest constant {constant}, edges {edges}\n"
-    )
 }
 
 /// A device in words: its numbers, then each edge that it tells.
 pub fn device_text<D: Device>(heap: Global, device: &D) -> Result<String, AllocError>
     ensures { IfOk result (λ t. string_bytes t ≡ device_text (D.Device.meaning device.now)) }
 {
-    let nodes = device.number(Number::Nodes);
-    let start = device.number(Number::Start);
-    let clocks = device.number(Number::Clocks);
-    let constant = device.number(Number::LargestConstant);
-    let edges = device.number(Number::EdgeNumbers);
-    let mut out = numbers(heap, nodes, start, clocks, constant, edges)?;
-    add_edges(heap, &mut out, device, edges)?;
-    Ok(out)
+    WholeDevice(device).to_string(heap)
 }

@@ -1,8 +1,8 @@
 //! Devices, properties and refusals in plain words.
 #![tactic(auto)]
 
-mod append;
 mod devices;
+mod each;
 mod lines;
 mod properties;
 mod refusals;

@@ -26,10 +26,7 @@ impl fmt::Display for InWords<Line> {
                 "after every action {action} line {then}"
             ),
             Line::Reset { clock, then } => write!(f, "with clock {clock} reset line {then}"),
-            Line::Holds(condition) => {
-                let condition = InWords(condition);
-                write!(f, "{condition}")
-            }
+            Line::Holds(condition) => write!(f, "{}", InWords(condition)),
         }
     }
 }

@@ -1,54 +1,62 @@
 //! Properties in words.
-ghost use Rattle.std.specs.Prelude.{◌≡◌, ◌++◌, length, IfOk, string_bytes, OnOk};
-ghost use Rattle.std.specs.List.{slice_get};
+ghost use Rattle.std.specs.Prelude.{◌≡◌, IfOk, Some, string_bytes};
 ghost use Rattle.property.specs.Contents.{content_of};
-ghost use Rattle.wording.specs.Texts.{texts};
-ghost use Rattle.wording.specs.Lines.{numbered_text, counts_text, property_text};
+ghost use Rattle.wording.specs.Lines.{numbered_text, property_text};
 
 use super::InWords;
-use super::append::append;
+use super::each::write_each;
 use property::Property;
 use property_sheet::Line;
 use std::alloc::{AllocError, Global};
+use std::fmt;
 
-fn numbered_line(heap: Global, number: u8, line: Option<Line>) -> Result<String, AllocError>
-    ensures { IfOk result (λ t. string_bytes t ≡ numbered_text number line) }
-{
-    match line {
-        Some(line) => {
-            let line = InWords(line);
-            format!(in heap; "line {number}: {line}\n")
+/// A line with its number; nothing where there is none.
+#[derive(Drop)]
+struct NumberedLine {
+    number: u8,
+    line: Option<Line>,
+}
+
+impl fmt::Display for NumberedLine {
+    ghost output = { λ l. Some (numbered_text l.number l.line) };
+
+    fn fmt<W: fmt::Write>(&self, f: &mut fmt::Formatter<W>) -> fmt::Result {
+        if let Some(line) = self.line {
+            writeln!(f, "line {}: {}", self.number, InWords(line))?;
         }
-        None => Ok(String::new(heap)),
+        Ok(())
     }
 }
 
-fn add_lines(
-    heap: Global,
-    out: &mut String,
-    property: &Property,
-    count: u8,
-) -> Result<(), AllocError>
-    ensures { OnOk result (string_bytes out.new ≡ string_bytes out.old ++ texts (λ p. numbered_text p (slice_get (content_of property.now).lines p)) 0 count) }
-{
-    for number in 0..count {
-        append(out, numbered_line(heap, number, property.line(number))?)?;
-    }
-    Ok(())
-}
+/// A property: its numbers, then its lines.
+#[derive(Drop)]
+struct WholeProperty<'a>(&'a Property);
 
-fn counts(heap: Global, clocks: u8, constant: u8, lines: u8) -> Result<String, AllocError>
-    ensures { IfOk result (λ t. string_bytes t ≡ counts_text clocks constant lines) }
-{
-    format!(in heap; "property: clocks {clocks}, largest constant {constant}, lines {lines}\n")
+impl fmt::Display for WholeProperty<'_> {
+    ghost output = { λ p. Some (property_text (content_of p.0.now)) };
+
+    fn fmt<W: fmt::Write>(&self, f: &mut fmt::Formatter<W>) -> fmt::Result {
+        let property = self.0;
+        let clocks = property.clocks();
+        let constant = property.largest_constant();
+        let lines = property.line_count();
+        writeln!(
+            f,
+            "property: clocks {clocks}, largest constant {constant}, lines {lines}"
+        )?;
+        write_each(
+            f,
+            (0..lines).map(|number| NumberedLine {
+                number,
+                line: property.line(number),
+            }),
+        )
+    }
 }
 
 /// A property in words: its numbers, then its lines.
 pub fn property_text(heap: Global, property: &Property) -> Result<String, AllocError>
     ensures { IfOk result (λ t. string_bytes t ≡ property_text (content_of property.now)) }
 {
-    let lines = property.line_count();
-    let mut out = counts(heap, property.clocks(), property.largest_constant(), lines)?;
-    add_lines(heap, &mut out, property, lines)?;
-    Ok(out)
+    WholeProperty(property).to_string(heap)
 }

@@ -49,19 +49,23 @@ impl fmt::Display for Refused {
     }
 }
 
-// What a refusal means.
-fn cause(refusal: Refusal) -> &'static str
-    ensures { result.now ≡ cause_text refusal }
-{
-    match refusal {
-        Refusal::BadSize => "the sheet is shorter than 16 bytes or longer than 65535",
-        Refusal::BadLetter => "the first byte is not the letter of this kind of sheet",
-        Refusal::BadHeader => "a byte of the header breaks its limit",
-        Refusal::BadBounds => "a section starts too early or ends past the sheet",
-        Refusal::BadCount => "a section is no whole number of records, or has too few or too many",
-        Refusal::BadCondition => "a field of a condition breaks its limit",
-        Refusal::BadEdge => "a field of an edge breaks its limit",
-        Refusal::BadLine => "a field of a line breaks its limit",
+/// What a refusal means.
+impl fmt::Display for InWords<Refusal> {
+    ghost output = { λ r. Some (cause_text r.0) };
+
+    fn fmt<W: fmt::Write>(&self, f: &mut fmt::Formatter<W>) -> fmt::Result {
+        f.write_str(match self.0 {
+            Refusal::BadSize => "the sheet is shorter than 16 bytes or longer than 65535",
+            Refusal::BadLetter => "the first byte is not the letter of this kind of sheet",
+            Refusal::BadHeader => "a byte of the header breaks its limit",
+            Refusal::BadBounds => "a section starts too early or ends past the sheet",
+            Refusal::BadCount => {
+                "a section is no whole number of records, or has too few or too many"
+            }
+            Refusal::BadCondition => "a field of a condition breaks its limit",
+            Refusal::BadEdge => "a field of an edge breaks its limit",
+            Refusal::BadLine => "a field of a line breaks its limit",
+        })
     }
 }
 
@@ -69,6 +73,6 @@ fn cause(refusal: Refusal) -> &'static str
 pub fn refusal_text(heap: Global, refused: Refused) -> Result<String, AllocError>
     ensures { IfOk result (λ t. string_bytes t ≡ refusal_text refused.kind refused.fault) }
 {
-    let cause = cause(refused.fault.refusal());
+    let cause = InWords(refused.fault.refusal());
     format!(in heap; "{refused}\n{cause}\n")
 }

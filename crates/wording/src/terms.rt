@@ -35,9 +35,11 @@ impl fmt::Display for InWords<Condition> {
     ghost output = { λ c. Some (condition_text c.0) };
 
     fn fmt<W: fmt::Write>(&self, f: &mut fmt::Formatter<W>) -> fmt::Result {
-        let term = InWords(self.0.term);
-        let relation = InWords(self.0.relation);
-        let constant = self.0.constant;
-        write!(f, "{term} {relation} {constant}")
+        let Condition {
+            term,
+            relation,
+            constant,
+        } = self.0;
+        write!(f, "{} {} {constant}", InWords(term), InWords(relation))
     }
 }

@@ -1,28 +1,17 @@
-use Rattle.std.proofs.Common.{◌≡◌, ℕ, List, ◌++◌, length, string_bytes, ap, ◌∙◌}
-use Rattle.std.proofs.lemmas.Result.{IfOk-weaker}
+use Rattle.std.proofs.Common.{◌≡◌, ℕ, List, ◌++◌, length, IfOk, string_bytes, subst}
 use Rattle.table.specs.Meanings.{meaning_of}
+use Rattle.device.specs.Meaning.{Meaning}
 use Rattle.property.specs.Contents.{content_of}
+use Rattle.property_sheet.specs.Contents.{Content}
 use Rattle.wording.specs.Devices.{device_text}
 use Rattle.wording.specs.Lines.{property_text}
 use Rattle.description.specs.Descriptions.{guard_lengths, closing_text, whole_text}
 use Rattle.description.proofs.whole.Goals as goal
 
-three : (a b c d e f : List ℕ) → a ≡ d → b ≡ e → c ≡ f → a ++ (b ++ c) ≡ d ++ (e ++ f)
-three a b c d e f p q r =
-    ap (λ l. l ++ (b ++ c)) p ∙ (ap (λ l. d ++ (l ++ c)) q ∙ ap (λ l. d ++ (e ++ l)) r)
+joined : (m : Meaning) (s : Content) (x y : List ℕ) (e c n : ℕ) → x ≡ device_text m → y ≡ property_text s → e ≡ m.edges → c ≡ guard_lengths m 0 e → n ≡ length s.lines → x ++ (y ++ closing_text e c n) ≡ whole_text m s
+joined m s x y e c n p q r t u = cc
 
 pub returns : goal.returns
 returns c =
-    let m = meaning_of c.args.device.now in
-    let s = content_of c.args.property.now in
-    let x = string_bytes c.in_ok-device_part.device_part in
-    let y = string_bytes c.in_ok-property_part.property_part in
-    let z = string_bytes c.in_ok-closing.closing in
-    let e = c.number-edges.result in
-    let n = c.line_count.result in
-    let total = guard_lengths m 0 m.edges in
-    let count : c.guard_lengths-conditions.result ≡ total = c.guard_lengths-conditions.ensures ∙ ap (guard_lengths m 0) c.number-edges.ensures in
-    let last : z ≡ closing_text m.edges total (length s.lines) = c.in_ok-closing.ensures ∙ (ap (λ k. closing_text e k n) count ∙ (ap (λ k. closing_text k total n) c.number-edges.ensures ∙ ap (closing_text m.edges total) c.line_count.ensures)) in
-    IfOk-weaker c.format.result (λ t. string_bytes t ≡ x ++ (y ++ z)) (λ t. string_bytes t ≡ whole_text m s)
-    (λ t e. e ∙ three x y z (device_text m) (property_text s) (closing_text m.edges total (length s.lines)) c.in_ok-device_part.ensures c.in_ok-property_part.ensures last)
-    c.format.ensures.ok
+    let whole = joined (meaning_of c.args.device.now) (content_of c.args.property.now) _ _ _ _ _ c.in_ok-device_part.ensures c.in_ok-property_part.ensures c.number-edges.ensures c.guard_lengths-conditions.ensures c.line_count-lines.ensures in
+    subst (λ z. IfOk c.format.result (λ t. string_bytes t ≡ z)) whole c.format.ensures.ok
