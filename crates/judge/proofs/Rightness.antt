@@ -2,7 +2,9 @@
 use Rattle.std.proofs.Common.{◌≡◌, ℕ, ◌+◌, ◌-◌, ◌*◌, ◌<◌, ◌≤◌, min, Bool, true, false, cond, ◌⊎◌, List, [], ◌∷◌, length, take, Some, Ok, Err, Result, sym, refl, ap, ◌∙◌, subst, inl, inr, ⊎_elim, arith}
 use Rattle.std.proofs.lemmas.Nat.{mul-le}
 use Rattle.std.proofs.lemmas.Bool.{cases_lt, cases_Bool}
+use Rattle.std.proofs.lemmas.Result.{err_from_is_err_and}
 use Rattle.std.specs.List.{slice_get}
+use Rattle.std.specs.Result.{IsErrAnd}
 use Rattle.device.specs.Meaning.{Meaning, Lawful}
 use Rattle.property_sheet.specs.Contents.{Content, ContentLawful}
 use Rattle.chart.specs.declared.rows.Row.{Row}
@@ -21,11 +23,13 @@ use Rattle.chart.specs.Law.{Verdicts}
 use Rattle.naming.proofs.Reached.{finitely_many}
 use Rattle.chart_laws.proofs.Histories.{some_room}
 use Rattle.chart_laws.proofs.Keeping.{runs_keep}
+use Rattle.run.specs.declared.openings.Opening.{Opening}
 use Rattle.run.specs.declared.state.Run.{Run}
 use Rattle.run.specs.Openings.{NewRun, NoRun}
+use Rattle.judge.specs.declared.report.Judgement.{Judgement}
 use Rattle.judge.specs.declared.report.Report.{Report}
 use Rattle.judge.specs.declared.report.Report.TheVariants.{RunRefused}
-use Rattle.judge.specs.Reports.{Reported, reported, asked, after_thin_by, after_grow, after_grow_by, judged}
+use Rattle.judge.specs.Reports.{Reported, reported, asked, run_report, after_thin, after_thin_by, after_grow, after_grow_by, judged}
 use Rattle.judge.specs.Verdicts.{VerdictRight, RunRight, JudgedRight}
 
 -- an answer tells the outcome
@@ -140,33 +144,63 @@ step_is : (a : Stepped) (p : Progress) (chart : List Row) (o : Result ℕ RunRef
 step_is a p chart o i = λ j. record { run = i.run_is j; chart = i.chart_is j; outcome = i.outcome_is j }
 
 module _ (m : Meaning) (s : Content) (law : Lawful m) (content : ContentLawful s) (chart : List Row) where
-  pub record Tells (r : Report) (after : List Row) : Type 0 where
-    pub report : reported r after ≡ judged m s chart
-    pub right : JudgedRight m s chart r
+  pub report_right : (r : Report) (after : List Row) → reported r after ≡ judged m s chart → JudgedRight m s chart r
+  report_right r after e = subst (λ (x : Reported). JudgedRight m s chart x.report) (sym e) (judged_right m s law content chart)
 
-  tells : (r : Report) (after : List Row) → reported r after ≡ judged m s chart → Tells r after
-  tells r after e = record {
-    report = e;
-    right = subst (λ (x : Reported). JudgedRight m s chart x.report) (sym e) (judged_right m s law content chart);
-  }
+module _ (m : Meaning) (s : Content) (chart : List Row) where
+  -- the run is refused
+  refusal_told : (r : Result Judgement RunRefusal) (e : RunRefusal) (after : List Row) → IsErrAnd r (λ x. x ≡ e) → reported (RunRefused e) after ≡ judged m s chart → reported (run_report r) after ≡ judged m s chart
+  refusal_told r e after handed is = ap (λ (r : Result Judgement RunRefusal). reported (run_report r) after) (let p = err_from_is_err_and {Q = λ x. x ≡ e} r handed in p.1 ∙ ap Err p.2) ∙ is
 
-  pub open_refused : (e : RunRefusal) (after : List Row) → NoRun chart after e → Tells (RunRefused e) after
+  pub open_refused : (r : Result Judgement RunRefusal) (e : RunRefusal) (after : List Row) → IsErrAnd r (λ x. x ≡ e) → NoRun chart after e → reported (run_report r) after ≡ judged m s chart
   unfolding judged
-  open_refused e after n =
-      tells (RunRefused e) after
+  open_refused r e after handed n =
+      refusal_told r e after handed
       ((λ i. reported (RunRefused (n.refusal_is i)) (n.chart_is i))
       ∙ sym (ap (λ (b : Bool). cond b (after_grow m s (length chart) (grow m s (length chart) (numbers_of m s) (length chart) opened (opened_chart m s chart))) (reported (RunRefused BadChart) chart)) n.unfit))
 
-  pub run_ended :
-      (first : List Row) (run : Run) → NewRun m s chart first run →
-      (rows : ℕ) → rows ≡ length first →
-      (p : Progress) (second : List Row) (o : Result ℕ RunRefusal) → IsStep (grow m s run.size run.numbers rows run.progress first) p second o →
-      length second ≡ length chart → length first ≡ length chart →
-      (r : Report) (after : List Row) → reported r after ≡ after_grow m s (length second) (stepped p second o) → Tells r after
-  unfolding judged
-  run_ended first run n rows er p second o i el ef r after e =
-      tells r after
-      (e
-      ∙ (λ j. after_grow m s (el j) (step_is (grow m s run.size run.numbers rows run.progress first) p second o i j))
-      ∙ (λ j. after_grow m s (length chart) (grow m s (n.size_is j) (n.numbers_are j) ((er ∙ ef) j) (n.progress_is j) (n.chart_is j)))
-      ∙ sym (ap (λ (b : Bool). cond b (after_grow m s (length chart) (grow m s (length chart) (numbers_of m s) (length chart) opened (opened_chart m s chart))) (reported (RunRefused BadChart) chart)) n.fits))
+  -- a run that is opened, grown by so many rows as the chart has
+  module _
+      (first : List Row) (run : Run) (n : NewRun m s chart first run) (rows : ℕ) (all : rows ≡ length chart)
+      (p : Progress) (second : List Row) (o : Result ℕ RunRefusal) (grows : IsStep (grow m s run.opening.size run.opening.numbers rows run.progress first) p second o) where
+    grown_is : after_grow_by m s (length chart) (stepped p second o) o ≡ judged m s chart
+    unfolding judged
+    grown_is =
+        (λ i. after_grow m s (length chart) (step_is (grow m s run.opening.size run.opening.numbers rows run.progress first) p second o grows i))
+        ∙ (λ i. after_grow m s (length chart) (grow m s (n.size_is i) (n.numbers_are i) (all i) (n.progress_is i) (n.chart_is i)))
+        ∙ sym (ap (λ (b : Bool). cond b (after_grow m s (length chart) (grow m s (length chart) (numbers_of m s) (length chart) opened (opened_chart m s chart))) (reported (RunRefused BadChart) chart)) n.fits)
+
+    pub grow_refused : (r : Result Judgement RunRefusal) (e : RunRefusal) → IsErrAnd r (λ x. x ≡ e) → o ≡ Err e → reported (run_report r) second ≡ judged m s chart
+    grow_refused r e handed is = refusal_told r e second handed (ap (after_grow_by m s (length chart) (stepped p second o)) (sym is) ∙ grown_is)
+
+    -- then thinned
+    module _
+        (k : ℕ) (grew : o ≡ Ok k) (opening : Opening) (same : opening ≡ run.opening) (most : ℕ) (enough : most ≡ rows * (rows + 1))
+        (q : Progress) (third : List Row) (o' : Result ℕ RunRefusal) (thins : IsStep (thin m s opening.size opening.numbers most p second) q third o') where
+      size_is : opening.size ≡ length chart
+      size_is = ap (λ (x : Opening). x.size) same ∙ n.size_is
+
+      thinned_is : after_thin_by (length chart) (stepped q third o') o' ≡ judged m s chart
+      thinned_is =
+          (λ i. after_thin (length chart) (step_is (thin m s opening.size opening.numbers most p second) q third o' thins i))
+          ∙ (λ i. after_thin (length chart) (thin m s (size_is i) (((ap (λ (x : Opening). x.numbers) same) ∙ n.numbers_are) i) ((enough ∙ ap (λ (r : ℕ). r * (r + 1)) all) i) p second))
+          ∙ ap (after_grow_by m s (length chart) (stepped p second o)) (sym grew)
+          ∙ grown_is
+
+      pub thin_refused : (r : Result Judgement RunRefusal) (e : RunRefusal) → IsErrAnd r (λ x. x ≡ e) → o' ≡ Err e → reported (run_report r) third ≡ judged m s chart
+      thin_refused r e handed is = refusal_told r e third handed (ap (after_thin_by (length chart) (stepped q third o')) (sym is) ∙ thinned_is)
+
+      -- and asked
+      module _ (k' : ℕ) (thinned : o' ≡ Ok k') (size : ℕ) (asks : size ≡ opening.size) (answer : Result Verdict RunRefusal) (told : answer ≡ ask size q third) where
+        asked_is : reported (asked q answer) third ≡ judged m s chart
+        asked_is =
+            ap (λ (a : Result Verdict RunRefusal). reported (asked q a) third) told
+            ∙ (λ i. reported (asked q (ask ((asks ∙ size_is) i) q third)) third)
+            ∙ ap (after_thin_by (length chart) (stepped q third o')) (sym thinned)
+            ∙ thinned_is
+
+        pub ask_refused : (r : Result Judgement RunRefusal) (e : RunRefusal) → IsErrAnd r (λ x. x ≡ e) → answer ≡ Err e → reported (run_report r) third ≡ judged m s chart
+        ask_refused r e handed is = refusal_told r e third handed (ap (λ (a : Result Verdict RunRefusal). reported (asked q a) third) (sym is) ∙ asked_is)
+
+        pub all_told : (v : Verdict) → answer ≡ Ok v → reported (asked q (Ok v)) third ≡ judged m s chart
+        all_told v is = ap (λ (a : Result Verdict RunRefusal). reported (asked q a) third) (sym is) ∙ asked_is

@@ -15,16 +15,16 @@ verdict_text No = codes "no"
 verdict_text NotYet = codes "not yet"
 
 -- verdict, rows, strikes, examinations
-abbrev pub judgement_line : Judgement → List ℕ
-judgement_line j =
-    verdict_text j.verdict ++ (codes " " ++ (decimal j.rows ++ (codes " " ++ (decimal j.strikes ++ (codes " " ++ (decimal j.examinations ++ codes "\n"))))))
+abbrev pub judgement_text : Judgement → List ℕ
+judgement_text j =
+    verdict_text j.verdict ++ (codes " " ++ (decimal j.rows ++ (codes " " ++ (decimal j.strikes ++ (codes " " ++ decimal j.examinations)))))
 
--- the number of a refusal
-abbrev pub refused_line : ℕ → List ℕ
-refused_line n = codes "refused " ++ (decimal n ++ codes "\n")
+-- the sheet that is refused, the number of the run's refusal, or the judgement
+abbrev pub report_text : Report → List ℕ
+report_text (DeviceRefused f) = refused_text Device f
+report_text (PropertyRefused f) = refused_text Property f
+report_text (RunRefused e) = codes "refused " ++ decimal (number_of e)
+report_text (Judged j) = judgement_text j
 
 abbrev pub report_line : Report → List ℕ
-report_line (DeviceRefused f) = refused_text Device f ++ codes "\n"
-report_line (PropertyRefused f) = refused_text Property f ++ codes "\n"
-report_line (RunRefused e) = refused_line (number_of e)
-report_line (Judged j) = judgement_line j
+report_line r = report_text r ++ codes "\n"

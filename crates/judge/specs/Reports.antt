@@ -13,6 +13,7 @@ use Rattle.chart.specs.declared.answers.RunRefusal.{RunRefusal}
 use Rattle.chart.specs.declared.answers.RunRefusal.TheVariants.{BadChart}
 use Rattle.chart.specs.Steps.{Stepped}
 use Rattle.chart.specs.Calls.{chart_fits, opened, opened_chart, numbers_of, grow, thin, ask}
+use Rattle.judge.specs.declared.report.Judgement.{Judgement}
 use Rattle.judge.specs.declared.report.Report.{Report}
 use Rattle.judge.specs.declared.report.Report.TheVariants.{DeviceRefused, PropertyRefused, RunRefused, Judged}
 
@@ -28,6 +29,11 @@ reported r chart = record { report = r; chart = chart }
 abbrev pub asked : Progress → Result Verdict RunRefusal → Report
 asked run (Ok v) = Judged (record { verdict = v; rows = run.rows; strikes = run.strikes; examinations = run.examinations })
 asked run (Err e) = RunRefused e
+
+-- a judgement, or the run's refusal
+abbrev pub run_report : Result Judgement RunRefusal → Report
+run_report (Ok j) = Judged j
+run_report (Err e) = RunRefused e
 
 abbrev pub after_thin_by : ℕ → Stepped → Result ℕ RunRefusal → Reported
 after_thin_by size a (Ok n) = reported (asked a.run (ask size a.run a.chart)) a.chart
@@ -59,6 +65,12 @@ with_property m (Err f) chart = reported (PropertyRefused f) chart
 abbrev pub with_device : Result Meaning SheetFault → Result Content SheetFault → List Row → Reported
 with_device (Ok m) p chart = with_property m p chart
 with_device (Err f) p chart = reported (DeviceRefused f) chart
+
+-- what is reported of two sheets before the judging
+abbrev pub both_sheets : Result Meaning SheetFault → Result Content SheetFault → Result (Unit {0}) Report
+both_sheets (Ok m) (Ok s) = Ok tt
+both_sheets (Ok m) (Err f) = Err (PropertyRefused f)
+both_sheets (Err f) p = Err (DeviceRefused f)
 
 unfoldable pub report_of : List ℕ → List Row → Reported
 report_of input chart = with_device (read_device (device_part input)) (read_property (property_part input)) chart

@@ -1,11 +1,12 @@
 //! The line that tells a report.
-ghost use Rattle.std.specs.Prelude.{◌≡◌, IfOk, string_bytes};
-ghost use Rattle.judge.specs.Lines.{judgement_line, refused_line, report_line, verdict_text};
+ghost use Rattle.std.specs.Prelude.{◌≡◌, IfOk, Some, string_bytes};
+ghost use Rattle.judge.specs.Lines.{judgement_text, report_line, report_text, verdict_text};
 
 use super::report::{Judgement, Report};
 use chart::Verdict;
 use sheet::SheetKind;
 use std::alloc::{AllocError, Global};
+use std::fmt;
 use wording::Refused;
 
 // The word for a verdict.
@@ -19,22 +20,44 @@ fn word(verdict: Verdict) -> &'static str
     }
 }
 
-// Verdict, rows, strikes and examinations.
-fn judgement_line(heap: Global, judgement: Judgement) -> Result<String, AllocError>
-    ensures { IfOk result (λ t. string_bytes t ≡ judgement_line judgement) }
-{
-    let verdict = word(judgement.verdict);
-    let rows = judgement.rows;
-    let strikes = judgement.strikes;
-    let examinations = judgement.examinations;
-    format!(in heap; "{verdict} {rows} {strikes} {examinations}\n")
+impl fmt::Display for Judgement {
+    ghost output = { λ judgement. Some (judgement_text judgement) };
+
+    fn fmt<W: fmt::Write>(&self, f: &mut fmt::Formatter<W>) -> fmt::Result {
+        let verdict = word(self.verdict);
+        let rows = self.rows;
+        let strikes = self.strikes;
+        let examinations = self.examinations;
+        write!(f, "{verdict} {rows} {strikes} {examinations}")
+    }
 }
 
-// The number of a refusal.
-fn refused_line(heap: Global, number: u8) -> Result<String, AllocError>
-    ensures { IfOk result (λ t. string_bytes t ≡ refused_line number) }
-{
-    format!(in heap; "refused {number}\n")
+impl fmt::Display for Report {
+    ghost output = { λ report. Some (report_text report) };
+
+    fn fmt<W: fmt::Write>(&self, f: &mut fmt::Formatter<W>) -> fmt::Result {
+        match *self {
+            Report::DeviceRefused(fault) => {
+                let refused = Refused {
+                    kind: SheetKind::Device,
+                    fault,
+                };
+                write!(f, "{refused}")
+            }
+            Report::PropertyRefused(fault) => {
+                let refused = Refused {
+                    kind: SheetKind::Property,
+                    fault,
+                };
+                write!(f, "{refused}")
+            }
+            Report::RunRefused(refusal) => {
+                let number = refusal.number();
+                write!(f, "refused {number}")
+            }
+            Report::Judged(judgement) => write!(f, "{judgement}"),
+        }
+    }
 }
 
 /// The line that tells a report: verdict, rows, strikes and examinations; or the sheet that is
@@ -42,22 +65,5 @@ fn refused_line(heap: Global, number: u8) -> Result<String, AllocError>
 pub fn report_line(heap: Global, report: Report) -> Result<String, AllocError>
     ensures { IfOk result (λ t. string_bytes t ≡ report_line report) }
 {
-    match report {
-        Report::DeviceRefused(fault) => {
-            let refused = Refused {
-                kind: SheetKind::Device,
-                fault,
-            };
-            format!(in heap; "{refused}\n")
-        }
-        Report::PropertyRefused(fault) => {
-            let refused = Refused {
-                kind: SheetKind::Property,
-                fault,
-            };
-            format!(in heap; "{refused}\n")
-        }
-        Report::RunRefused(refusal) => refused_line(heap, refusal.number()),
-        Report::Judged(judgement) => judgement_line(heap, judgement),
-    }
+    format!(in heap; "{report}\n")
 }

@@ -3,7 +3,7 @@ use chart::{RunRefusal, Verdict};
 use sheet::SheetFault;
 
 /// The verdict of a settled run, with its rows, strikes and examinations.
-#[derive(Clone, Copy)]
+#[derive(Clone, Copy, PartialEq, Eq, Debug)]
 pub struct Judgement {
     pub verdict: Verdict,
     pub rows: u32,

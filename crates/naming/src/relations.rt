@@ -3,9 +3,13 @@ ghost use Rattle.std.specs.Prelude.{ℕ};
 ghost use Rattle.device.specs.Meaning.{Meaning, Lawful};
 ghost use Rattle.property_sheet.specs.Contents.{Content, ContentLawful};
 ghost use Rattle.region.specs.TimedSteps.{State};
-ghost use Rattle.semantics.specs.Frames.{line_of, Satisfiability, Satisfied, Refuted};
+ghost use Rattle.semantics.specs.Frames.{line_of, Satisfiability};
 ghost use Rattle.semantics.specs.RationalTime.{rational_time};
 ghost use Rattle.semantics.specs.Places.{Place, places, place_of};
+ghost use Rattle.naming.specs.Decisions.{HeldByTests};
+
+// Kept: a trait for each frame. Their points differ in type, and one trait over both would be told by
+// a flag which type its relation takes.
 
 /// A satisfiability relation over rational time, of a device and a property.
 pub trait TimeRelation {
@@ -33,24 +37,10 @@ pub trait PlaceRelation {
 /// by a relation over rational time that a test tells, its place is by one over places, and it is
 /// not refuted.
 pub fn held_in_time<R: TimeRelation>()
-    ensures { (
-        let m : Meaning = R.TimeRelation.device in
-        let s : Content = R.TimeRelation.property in
-        Lawful m → ContentLawful s → (x : State) (l : ℕ) → R.TimeRelation.holds x l →
-        Satisfied (rational_time m) (line_of s) x l ×
-        Satisfied (places m s) (line_of s) (place_of m s x) l ×
-        (Refuted (rational_time m) (line_of s) x l → ⊥)
-        ) }
+    ensures { let m = R.TimeRelation.device in let s = R.TimeRelation.property in Lawful m → ContentLawful s → (x : State) (l : ℕ) → R.TimeRelation.holds x l → HeldByTests m s x l }
 {}
 
 /// The same of every state whose place the relation holds with a line.
 pub fn held_at_places<R: PlaceRelation>()
-    ensures { (
-        let m : Meaning = R.PlaceRelation.device in
-        let s : Content = R.PlaceRelation.property in
-        Lawful m → ContentLawful s → (x : State) (l : ℕ) → R.PlaceRelation.holds (place_of m s x) l →
-        Satisfied (rational_time m) (line_of s) x l ×
-        Satisfied (places m s) (line_of s) (place_of m s x) l ×
-        (Refuted (rational_time m) (line_of s) x l → ⊥)
-        ) }
+    ensures { let m = R.PlaceRelation.device in let s = R.PlaceRelation.property in Lawful m → ContentLawful s → (x : State) (l : ℕ) → R.PlaceRelation.holds (place_of m s x) l → HeldByTests m s x l }
 {}

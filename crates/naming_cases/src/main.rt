@@ -1,6 +1,7 @@
 //! What small claims name: each of the ten kinds of line at a few places, one line for each claim.
 #![tactic(auto)]
 
+// Kept: the runtime stands beside what is loaded, since a function that prints is passed it.
 mod places;
 mod sheets;
 
@@ -8,8 +9,9 @@ use sheets::Loaded;
 
 fn run(rt: &HostRuntime) -> anyhow::Result<()> {
     let loaded = Loaded::new(rt)?;
-    places::print_at_start(rt, &loaded)?;
-    places::print_later(rt, &loaded)
+    let instance = loaded.instance();
+    places::print_at_start(rt, &instance)?;
+    places::print_later(rt, &instance)
 }
 
 fn main(rt: HostRuntime) -> anyhow::Result<()> {

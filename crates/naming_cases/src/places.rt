@@ -1,7 +1,7 @@
 //! The claims that claims name, printed.
-use super::sheets::Loaded;
-use moves::{Claim, asks_every, first_claim, names};
+use moves::{Claim, Instance};
 use region::Region;
+use table::Table;
 
 fn print_claim(rt: &HostRuntime, title: &str, claim: &Claim) -> anyhow::Result<()> {
     let node = claim.node;
@@ -15,18 +15,18 @@ fn print_claim(rt: &HostRuntime, title: &str, claim: &Claim) -> anyhow::Result<(
     Ok(())
 }
 
-fn print_names(rt: &HostRuntime, loaded: &Loaded, claim: &Claim) -> anyhow::Result<()> {
+fn print_names(
+    rt: &HostRuntime,
+    instance: &Instance<Table<'static>>,
+    claim: &Claim,
+) -> anyhow::Result<()> {
     print_claim(rt, "at", claim)?;
-    if asks_every(&loaded.device, &loaded.property, claim) {
+    if instance.asks_every(claim) {
         println!(rt; "every of")?;
     } else {
         println!(rt; "some of")?;
     }
-    let mut cursor = names(&loaded.device, &loaded.property, claim);
-    for _ in 0..200 {
-        let Some(named) = cursor.next(&loaded.device) else {
-            return Ok(());
-        };
+    for named in instance.names(claim) {
         print_claim(rt, " ", &named)?;
     }
     Ok(())
@@ -37,29 +37,24 @@ fn with_line(region: Region, node: u16, line: u8) -> Claim {
 }
 
 /// Every line at the start.
-pub fn print_at_start(rt: &HostRuntime, loaded: &Loaded) -> anyhow::Result<()> {
-    let start = first_claim(&loaded.device, &loaded.property);
+pub fn print_at_start(rt: &HostRuntime, instance: &Instance<Table<'static>>) -> anyhow::Result<()> {
+    let start = instance.first_claim();
     for line in 0..11 {
-        print_names(rt, loaded, &with_line(start.region, start.node, line))?;
+        print_names(rt, instance, &with_line(start.region, start.node, line))?;
     }
     Ok(())
 }
 
 /// The two action lines, the reset and the condition at each place that the start leads to by
 /// delays; and some action and every delay at node 1 with clock 1 reset, so that clocks differ.
-pub fn print_later(rt: &HostRuntime, loaded: &Loaded) -> anyhow::Result<()> {
-    let start = first_claim(&loaded.device, &loaded.property);
-    let mut cursor = names(&loaded.device, &loaded.property, &start);
-    for _ in 0..200 {
-        let Some(claim) = cursor.next(&loaded.device) else {
-            return Ok(());
-        };
-        print_names(rt, loaded, &with_line(claim.region, 0, 6))?;
-        print_names(rt, loaded, &with_line(claim.region, 0, 7))?;
-        print_names(rt, loaded, &with_line(claim.region.reset(1), 1, 6))?;
-        print_names(rt, loaded, &with_line(claim.region.reset(1), 1, 5))?;
-        print_names(rt, loaded, &with_line(claim.region, 0, 8))?;
-        print_names(rt, loaded, &with_line(claim.region, 0, 9))?;
+pub fn print_later(rt: &HostRuntime, instance: &Instance<Table<'static>>) -> anyhow::Result<()> {
+    for claim in instance.names(&instance.first_claim()) {
+        print_names(rt, instance, &with_line(claim.region, 0, 6))?;
+        print_names(rt, instance, &with_line(claim.region, 0, 7))?;
+        print_names(rt, instance, &with_line(claim.region.reset(1), 1, 6))?;
+        print_names(rt, instance, &with_line(claim.region.reset(1), 1, 5))?;
+        print_names(rt, instance, &with_line(claim.region, 0, 8))?;
+        print_names(rt, instance, &with_line(claim.region, 0, 9))?;
     }
     Ok(())
 }

@@ -1,5 +1,6 @@
 //! A small device and a property with a line of each kind.
 use anyhow::anyhow;
+use moves::Instance;
 use property::Property;
 use table::Table;
 
@@ -38,20 +39,6 @@ static PROPERTY: [u8; 60] = [
     0, 255, 1, 1, // 56: clock 0 <= 1
 ];
 
-fn load_device<'a>(table: &mut Table<'a>, sheet: &'a [u8]) -> anyhow::Result<()> {
-    match table.load(sheet) {
-        Ok(()) => Ok(()),
-        Err(_) => Err(anyhow!("the device is refused")),
-    }
-}
-
-fn load_property(property: &mut Property, sheet: &[u8]) -> anyhow::Result<()> {
-    match property.load(sheet) {
-        Ok(()) => Ok(()),
-        Err(_) => Err(anyhow!("the property is refused")),
-    }
-}
-
 /// The device and the property.
 #[derive(Drop)]
 pub struct Loaded {
@@ -62,9 +49,21 @@ pub struct Loaded {
 impl Loaded {
     pub fn new(rt: &HostRuntime) -> anyhow::Result<Loaded> {
         let mut device = Table::new();
-        load_device(&mut device, &DEVICE)?;
+        device
+            .load(&DEVICE)
+            .map_err(|_| anyhow!("the device is refused"))?;
         let mut property = Property::new(rt.alloc())?;
-        load_property(&mut property, &PROPERTY)?;
+        property
+            .load(&PROPERTY)
+            .map_err(|_| anyhow!("the property is refused"))?;
         Ok(Loaded { device, property })
+    }
+
+    /// Both, asked together.
+    pub fn instance(&self) -> Instance<Table<'static>> {
+        Instance {
+            device: &self.device,
+            property: &self.property,
+        }
     }
 }
