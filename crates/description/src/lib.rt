@@ -38,6 +38,9 @@ fn whole(heap: Global, device: &Table, property: &Property) -> Result<String, Al
     )
 }
 
+// Kept: the judge has a function alike with its own error. No crate below both has the table, the
+// property and the error; a new crate of one function would be no plainer.
+
 // Loads both sheets, the device's first.
 fn load<'a>(
     device: &mut Table<'a>,

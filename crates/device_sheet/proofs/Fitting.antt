@@ -4,7 +4,6 @@ use Rattle.std.proofs.lemmas.Bool.Decides.{nat_tests}
 use Rattle.sheet.specs.declared.kinds.SheetKind.TheVariants.{Device}
 use Rattle.sheet.specs.declared.kinds.RecordKind.TheVariants.{Edges}
 use Rattle.sheet.specs.Layout.{byte_at, offset_of, section_of}
-use Rattle.sheet.specs.Limits.{held_in}
 use Rattle.sheet.proofs.Passed.{Passed, kept_from, passed_from, passed_each, passed_all}
 use Rattle.sheet.proofs.Layers.{layers_from, layers_passed}
 use Rattle.sheet.proofs.Fitting.{Shared, shared_from, header_passed, directory_passed, conditions_passed}

@@ -1,5 +1,5 @@
 -- The report of an input is that of its device and its property, or of the first sheet that is refused.
-use Rattle.std.proofs.Common.{◌≡◌, ℕ, List, Ok, Err, Result, sym, refl, ◌∙◌, arith}
+use Rattle.std.proofs.Common.{◌≡◌, ℕ, List, Ok, Err, Result, sym, ◌∙◌, arith}
 use Rattle.device.specs.Meaning.{Meaning}
 use Rattle.sheet.specs.declared.faults.SheetFault.{SheetFault}
 use Rattle.sheet.specs.Inputs.{device_part, property_part}

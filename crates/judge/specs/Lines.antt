@@ -2,17 +2,10 @@
 use Rattle.std.specs.Prelude.{ℕ, List, ◌++◌, codes, decimal}
 use Rattle.sheet.specs.declared.kinds.SheetKind.TheVariants.{Device, Property}
 use Rattle.wording.specs.Refusals.{refused_text}
-use Rattle.chart.specs.declared.answers.Verdict.{Verdict}
-use Rattle.chart.specs.declared.answers.Verdict.TheVariants.{Yes, No, NotYet}
-use Rattle.chart.specs.Answers.{number_of}
+use Rattle.chart.specs.Answers.{verdict_text, number_of}
 use Rattle.judge.specs.declared.report.Judgement.{Judgement}
 use Rattle.judge.specs.declared.report.Report.{Report}
 use Rattle.judge.specs.declared.report.Report.TheVariants.{DeviceRefused, PropertyRefused, RunRefused, Judged}
-
-abbrev pub verdict_text : Verdict → List ℕ
-verdict_text Yes = codes "yes"
-verdict_text No = codes "no"
-verdict_text NotYet = codes "not yet"
 
 -- verdict, rows, strikes, examinations
 abbrev pub judgement_text : Judgement → List ℕ

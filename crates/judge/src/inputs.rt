@@ -17,6 +17,8 @@ use sheet::Input;
 use std::alloc::{AllocError, Global};
 use table::Table;
 
+// Kept: the description has a function alike with its own error; one for both would need a new crate.
+
 // Loads both sheets, the device's first; what is reported if one is refused.
 fn load<'a>(input: &'a [u8], device: &mut Table<'a>, property: &mut Property) -> Result<(), Report>
     ensures sheets { result ≡ both_sheets (read_device (device_part input.now)) (read_property (property_part input.now)) }

@@ -34,8 +34,5 @@ pub fn judge_device<D: Device>(instance: &Instance<D>, chart: &mut [Row]) -> Rep
     ensures right { JudgedRight (D.Device.meaning instance.now.device.now) (content_of instance.now.property.now) chart.old result }
 {
     instance.property.keeps_limits();
-    match judgement(instance, chart) {
-        Ok(judgement) => Report::Judged(judgement),
-        Err(refusal) => Report::RunRefused(refusal),
-    }
+    judgement(instance, chart).map_or_else(Report::RunRefused, Report::Judged)
 }

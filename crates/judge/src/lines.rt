@@ -1,30 +1,18 @@
 //! The line that tells a report.
 ghost use Rattle.std.specs.Prelude.{◌≡◌, IfOk, Some, string_bytes};
-ghost use Rattle.judge.specs.Lines.{judgement_text, report_line, report_text, verdict_text};
+ghost use Rattle.judge.specs.Lines.{judgement_text, report_line, report_text};
 
 use super::report::{Judgement, Report};
-use chart::Verdict;
 use sheet::SheetKind;
 use std::alloc::{AllocError, Global};
 use std::fmt;
 use wording::Refused;
 
-// The word for a verdict.
-fn word(verdict: Verdict) -> &'static str
-    ensures { result.now ≡ verdict_text verdict }
-{
-    match verdict {
-        Verdict::Yes => "yes",
-        Verdict::No => "no",
-        Verdict::NotYet => "not yet",
-    }
-}
-
 impl fmt::Display for Judgement {
     ghost output = { λ judgement. Some (judgement_text judgement) };
 
     fn fmt<W: fmt::Write>(&self, f: &mut fmt::Formatter<W>) -> fmt::Result {
-        let verdict = word(self.verdict);
+        let verdict = self.verdict;
         let rows = self.rows;
         let strikes = self.strikes;
         let examinations = self.examinations;

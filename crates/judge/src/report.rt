@@ -12,8 +12,10 @@ pub struct Judgement {
 }
 
 /// A sheet is refused, the device's first; a call of the run is; or the property is judged.
-#[derive(Clone, Copy)]
+#[derive(Clone, Copy, PartialEq, Eq, Debug)]
 pub enum Report {
+    // Kept: no `Result`, since a refusal is a report as a verdict is, and each is printed as the one
+    // line.
     DeviceRefused(SheetFault),
     PropertyRefused(SheetFault),
     RunRefused(RunRefusal),

@@ -8,8 +8,8 @@ ghost use Rattle.semantics.specs.RationalTime.{rational_time};
 ghost use Rattle.semantics.specs.Places.{Place, places, place_of};
 ghost use Rattle.naming.specs.Decisions.{HeldByTests};
 
-// Kept: a trait for each frame. Their points differ in type, and one trait over both would be told by
-// a flag which type its relation takes.
+// Kept: two public traits, one for each frame. A frame carries the type of its points, so one trait
+// over both would carry a frame, and the premise that it is one of these two.
 
 /// A satisfiability relation over rational time, of a device and a property.
 pub trait TimeRelation {

@@ -1,7 +1,7 @@
 //! What small claims name: each of the ten kinds of line at a few places, one line for each claim.
 #![tactic(auto)]
 
-// Kept: the runtime stands beside what is loaded, since a function that prints is passed it.
+// Kept: the runtime stands beside what is loaded: a struct of both would be made for each call.
 mod places;
 mod sheets;
 

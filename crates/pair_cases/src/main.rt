@@ -1,6 +1,7 @@
 //! Pairs of devices in words, pairs at the limits of devices, and rows that synchronisers refuse.
 #![tactic(auto)]
 
+// Kept: the runtime stands beside a case's devices: a struct of both would be made for each call.
 mod limits;
 mod nested;
 mod rows;

@@ -18,6 +18,8 @@ const FOUR_BELLS: [SyncRow; 4] = [row!(1, 1, 1), row!(2, 3, 2), row!(3, 0, 3), r
 
 const RING: [SyncRow; 2] = [row!(0, 1, 1), row!(1, 1, 2)];
 
+// Kept: the two pairs differ in which side is a pair, which one function could not build. The
+// devices stand side by side, since each case pairs them in its own way.
 fn print_left(rt: &HostRuntime, door: Table, bell: Table) -> anyhow::Result<()> {
     let pair = Pair::new(door, bell, with_rows(&DOOR_BELL)?);
     print_pair(

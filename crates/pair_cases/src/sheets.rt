@@ -49,6 +49,7 @@ pub const BELL: [u8; 28] = [
 /// The table of a sheet; an idle one if the sheet is refused.
 pub(crate) fn table_of(sheet: &[u8]) -> Table<'_> {
     let mut table = Table::new();
+    // Kept: a refused sheet leaves the table idle, and that is what some cases ask for.
     let _ = table.load(sheet);
     table
 }

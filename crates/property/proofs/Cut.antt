@@ -27,9 +27,9 @@ module _ (ls : List ℕ) (rs : List (List ℕ)) (cut : rs ≡ first_chunks 4 (le
         ap (byte_at ls) same,
       )
 
-  limits_of_bytes : (n c m at : ℕ) → line_limits n c m r (at + 4 * k) 0 ≡ line_limits n c m ls at k
-  limits_of_bytes n c m at =
-      let b = bytes in simp (b.0, b.1, b.2, b.3, b.4, add-zero)
+  limits_of_bytes : (n c m at place : ℕ) → place ≡ at + 4 * k → line_limits n c m r place 0 ≡ line_limits n c m ls at k
+  limits_of_bytes n c m at place same =
+      let b = bytes in simp (b.0, b.1, b.2, b.3, b.4, add-zero, same)
 
   -- what record k says
   pub line_of_bytes : (cs : List ℕ) → line_at r cs 0 ≡ line_at ls cs k
@@ -40,10 +40,10 @@ module _ (ls : List ℕ) (rs : List (List ℕ)) (cut : rs ≡ first_chunks 4 (le
 
   -- the loop over the records, at record k
   module _ (n c m at : ℕ) (left : LeftFrom (line_limits n c m ls at) (length ls / 4) k) where
-    pub line_kept : Ok tt ≡ checked (line_limits n c m r (at + 4 * k) 0) → LeftFrom (line_limits n c m ls at) (length ls / 4) (k + 1)
-    line_kept made =
-        goes_on (line_limits n c m ls at) (length ls / 4) k left h (sym (made ∙ ap checked (limits_of_bytes n c m at)))
+    pub line_kept : (place : ℕ) → place ≡ at + 4 * k → Ok tt ≡ checked (line_limits n c m r place 0) → LeftFrom (line_limits n c m ls at) (length ls / 4) (k + 1)
+    line_kept place same made =
+        goes_on (line_limits n c m ls at) (length ls / 4) k left h (sym (made ∙ ap checked (limits_of_bytes n c m at place same)))
 
-    pub line_broken : (f : RecordFault) → Err f ≡ checked (line_limits n c m r (at + 4 * k) 0) → Err f ≡ checked (of_each (line_limits n c m ls at) 0 (length ls / 4))
-    line_broken f made =
-        sym (stops (line_limits n c m ls at) (length ls / 4) k left f h (sym (made ∙ ap checked (limits_of_bytes n c m at))))
+    pub line_broken : (place : ℕ) → place ≡ at + 4 * k → (f : RecordFault) → Err f ≡ checked (line_limits n c m r place 0) → Err f ≡ checked (of_each (line_limits n c m ls at) 0 (length ls / 4))
+    line_broken place same f made =
+        sym (stops (line_limits n c m ls at) (length ls / 4) k left f h (sym (made ∙ ap checked (limits_of_bytes n c m at place same))))

@@ -17,15 +17,19 @@ fn line_records(section: &[u8]) -> &[[u8; 4]]
     ensures value { result.now ≡ first_chunks 4 (length section.now / 4) section.now }
     ensures count { length result.now ≡ length section.now / 4 }
 {
+    // Kept: edges have such a function, of another size; one for both would be a public function of
+    // another crate for this one call.
     section.as_chunks().0
 }
 
-/// The numbers that lines keep to: how many lines, clocks and conditions there are.
+/// The numbers that lines keep to: how many lines, clocks and conditions there are, and
+/// where the section begins in its sheet.
 #[derive(Clone, Copy)]
 pub(crate) struct LineRules {
     lines: usize,
     clocks: u8,
     conditions: usize,
+    at: u16,
 }
 
 impl LineRules {
@@ -77,15 +81,16 @@ impl LineRules {
         record.require(reserved == 0, place + 3)
     }
 
-    // The limits of every line of a section that begins at this byte of the sheet.
-    fn check_each(self, section: &[u8], at: usize) -> Result<(), RecordFault>
-        requires { at ≤ 65535 }
-        ensures { result ≡ checked (of_each (line_limits self.lines self.clocks self.conditions section.now at) 0 (length section.now / 4)) }
+    // The limits of every line of a section, one after the other.
+    fn check_each(self, section: &[u8]) -> Result<(), RecordFault>
+        ensures { result ≡ checked (of_each (line_limits self.lines self.clocks self.conditions section.now self.at) 0 (length section.now / 4)) }
     {
-        // Kept: edges and conditions have such a loop each; one for all would need a public trait over
-        // sizes of records, longer than the three loops.
+        // Kept: edges and conditions have such a loop each, in other crates. Tried: one public
+        // function that takes the check as a closure. It has to require that the closure may be
+        // called, and no public function here requires anything; nor is a closure over `&[u8; N]`
+        // proved yet. A trait over sizes, with a law, is longer than three loops of three lines.
         for (k, bytes) in line_records(section).iter().enumerate() {
-            self.check_line(bytes, at + 4 * k)?;
+            self.check_line(bytes, usize::from(self.at) + 4 * k)?;
         }
         Ok(())
     }
@@ -105,8 +110,9 @@ impl SheetRecords for LineRules {
             lines: sections.records.len() / 4,
             clocks: reader.byte(2),
             conditions: sections.conditions.len() / 4,
+            at: reader.records_at() as u16,
         };
-        rules.check_each(sections.records, reader.records_at())
+        rules.check_each(sections.records)
     }
 }
 

@@ -86,18 +86,16 @@ fn print_walk(rt: HostRuntime, space: Space, start: Region, most: u8) -> io::Res
     println!(rt; " and on")
 }
 
+// The first of two clocks is at 0, the second between 0 and 1.
+#[tactic(auto, unfolding(region::specs::Sizes::clocks_small, region::specs::Sizes::differences_small))]
+fn second_ahead() -> Region {
+    let differences = [-1, 0, 0, 0, 0, 0, 0, 0, 0, 0, 0, 0, 0, 0, 0];
+    Region::from_classes([0, 1, 0, 0, 0, 0], differences).unwrap()
+}
+
 fn main(rt: HostRuntime) -> io::Result<()> {
-    if let Some(space) = Space::new(2, 1) {
-        let differences = [-1, 0, 0, 0, 0, 0, 0, 0, 0, 0, 0, 0, 0, 0, 0];
-        if let Some(region) = Region::from_classes([0, 1, 0, 0, 0, 0], differences) {
-            print_walk(rt, space, region, 10)?;
-        }
-    }
-    if let Some(space) = Space::new(1, 0) {
-        print_walk(rt, space, Region::start(), 10)?;
-    }
-    if let Some(space) = Space::new(6, 15) {
-        println!(rt; "{COUNT} successors, sum {}", walked(space, COUNT))?;
-    }
-    Ok(())
+    print_walk(rt, Space::new(2, 1).unwrap(), second_ahead(), 10)?;
+    print_walk(rt, Space::new(1, 0).unwrap(), Region::start(), 10)?;
+    let space = Space::new(6, 15).unwrap();
+    println!(rt; "{COUNT} successors, sum {}", walked(space, COUNT))
 }

@@ -1,6 +1,5 @@
 //! Condition records: the same in the sheets of devices and of properties.
-ghost use Rattle.std.specs.Prelude.{◌≡◌, ℕ, ◌+◌, ◌*◌, ◌/◌, ◌<◌, ◌≤◌, List, length};
-ghost use Rattle.device.specs.Terms.{relation_of};
+ghost use Rattle.std.specs.Prelude.{◌≡◌, ◌+◌, ◌*◌, ◌/◌, ◌<◌, ◌≤◌, length};
 ghost use Rattle.sheet.specs.Conditions.{condition_at, condition_limits, condition_told, constant_fits, second_fits, term_of};
 ghost use Rattle.sheet.specs.Limits.{checked, of_each};
 
@@ -87,8 +86,10 @@ impl ConditionRules {
         ensures { result ≡ checked (of_each (condition_limits self.clocks self.constant section.now self.at) 0 (length section.now / 4)) }
     {
         let (records, _) = section.as_chunks::<4>();
-        // Kept: edges and lines have such a loop each; one for all would need a public trait over
-        // sizes of records, longer than the three loops.
+        // Kept: edges and lines have such a loop each, in other crates. Tried: one public function
+        // that takes the check as a closure. It has to require that the closure may be called, and
+        // no public function here requires anything; nor is a closure over `&[u8; N]` proved yet. A
+        // trait over sizes, with a law, is longer than three loops of three lines.
         for (k, record) in records.iter().enumerate() {
             self.check(*record, usize::from(self.at) + 4 * k)?;
         }

@@ -1,9 +1,16 @@
 //! Why a sheet is refused. A record's fault is held in the directory's, and that in the sheet's.
 ghost use Rattle.std.specs.Prelude.{◌≡◌, [], ◌∷◌};
-ghost use Rattle.sheet.specs.Faults.{number_of, record_fault, refusal_of, place_of, layer_of, InDirectory, InRecord};
+ghost use Rattle.sheet.specs.Faults.{number_of, record_fault, record_refusal, refusal_of, place_of, layer_of, InDirectory, InRecord};
 ghost use Rattle.sheet.specs.Limits.{checked, limit};
 
 use super::kinds::RecordKind;
+
+/// One limit of a sheet: unless it is kept, its fault.
+pub(crate) fn check_limit<E: Copy>(kept: bool, fault: E) -> Result<(), E>
+    ensures { result ≡ checked (limit kept fault ∷ []) }
+{
+    if kept { Ok(()) } else { Err(fault) }
+}
 
 /// The part of a sheet that a fault was found in.
 #[derive(Clone, Copy, PartialEq, Eq, Debug)]
@@ -62,7 +69,18 @@ impl RecordKind {
     pub fn require(self, kept: bool, place: usize) -> Result<(), RecordFault>
         ensures { result ≡ checked (limit kept (record_fault self place) ∷ []) }
     {
-        if kept { Ok(()) } else { Err(self.fault(place)) }
+        check_limit(kept, self.fault(place))
+    }
+
+    // Why a sheet is refused in which such a record breaks a limit.
+    fn refusal(self) -> Refusal
+        ensures { result ≡ record_refusal self }
+    {
+        match self {
+            RecordKind::Conditions => Refusal::BadCondition,
+            RecordKind::Edges => Refusal::BadEdge,
+            RecordKind::Lines => Refusal::BadLine,
+        }
     }
 }
 
@@ -110,11 +128,7 @@ impl SheetFault {
             SheetFault::Header { .. } => Refusal::BadHeader,
             SheetFault::InDirectory(DirectoryFault::Bounds { .. }) => Refusal::BadBounds,
             SheetFault::InDirectory(DirectoryFault::Count { .. }) => Refusal::BadCount,
-            SheetFault::InDirectory(DirectoryFault::InRecord(fault)) => match fault.kind {
-                RecordKind::Conditions => Refusal::BadCondition,
-                RecordKind::Edges => Refusal::BadEdge,
-                RecordKind::Lines => Refusal::BadLine,
-            },
+            SheetFault::InDirectory(DirectoryFault::InRecord(fault)) => fault.kind.refusal(),
         }
     }
 
@@ -123,11 +137,11 @@ impl SheetFault {
         ensures { result ≡ place_of self }
     {
         match self {
-            SheetFault::Size => 0,
-            SheetFault::Letter => 0,
+            SheetFault::Size | SheetFault::Letter => 0,
             SheetFault::Header { place } => place,
-            SheetFault::InDirectory(DirectoryFault::Bounds { place }) => place,
-            SheetFault::InDirectory(DirectoryFault::Count { place }) => place,
+            SheetFault::InDirectory(
+                DirectoryFault::Bounds { place } | DirectoryFault::Count { place },
+            ) => place,
             SheetFault::InDirectory(DirectoryFault::InRecord(fault)) => fault.place,
         }
     }

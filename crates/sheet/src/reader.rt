@@ -1,13 +1,13 @@
 //! A reader over the bytes of one sheet.
 ghost use Rattle.std.specs.Prelude.{◌≡◌, ◌+◌, ◌≤◌, [], ◌∷◌, ◌&&◌, length, take, drop, nat_le};
 ghost use Rattle.sheet.specs.Kinds.{Device, Property};
-ghost use Rattle.sheet.specs.Faults.{Header};
+ghost use Rattle.sheet.specs.Faults.{Header, Bounds, Count};
 ghost use Rattle.sheet.specs.Limits.{checked, limit};
 ghost use Rattle.sheet.specs.Layout.{byte_at, word_at, offset_of, section_of, counts_limits, edition_limits, header_limits, directory_limits};
 ghost use Rattle.sheet.specs.Conditions.{conditions_limits};
 
 use super::conditions::ConditionRules;
-use super::faults::{DirectoryFault, RecordFault, SheetFault};
+use super::faults::{DirectoryFault, RecordFault, SheetFault, check_limit};
 use super::kinds::{RecordKind, SheetKind};
 use super::parts::{byte_at, part, word_at};
 
@@ -54,15 +54,29 @@ impl Pair {
     }
 }
 
+// The fault of a pair whose section does not lie where it may.
+fn bounds(pair: u8) -> DirectoryFault
+    ensures { result ≡ Bounds pair }
+{
+    DirectoryFault::Bounds {
+        place: usize::from(pair),
+    }
+}
+
+// The fault of a pair whose length does not fit; the length is the pair's second word.
+fn count(pair: u8) -> DirectoryFault
+    ensures { result ≡ Count (pair + 2) }
+{
+    DirectoryFault::Count {
+        place: usize::from(pair) + 2,
+    }
+}
+
 // A limit of the header: a byte that fits, or the fault that tells it.
 fn check_byte(place: usize, fits: bool) -> Result<(), SheetFault>
     ensures { result ≡ checked (limit fits (Header place) ∷ []) }
 {
-    if fits {
-        Ok(())
-    } else {
-        Err(SheetFault::Header { place })
-    }
+    check_limit(fits, SheetFault::Header { place })
 }
 
 impl<'a> Reader<'a> {
@@ -164,12 +178,8 @@ impl<'a> Reader<'a> {
     pub fn check_header(&self) -> Result<(), SheetFault>
         ensures { result ≡ checked (header_limits self.now.kind self.now.sheet.now) }
     {
-        if !(16..=65535).contains(&self.sheet.len()) {
-            return Err(SheetFault::Size);
-        }
-        if self.byte(0) != self.kind.letter() {
-            return Err(SheetFault::Letter);
-        }
+        check_limit((16..=65535).contains(&self.sheet.len()), SheetFault::Size)?;
+        check_limit(self.byte(0) == self.kind.letter(), SheetFault::Letter)?;
         self.check_counts()?;
         self.check_edition()
     }
@@ -178,29 +188,13 @@ impl<'a> Reader<'a> {
     pub fn check_directory(&self) -> Result<(), DirectoryFault>
         ensures { result ≡ checked (directory_limits self.now.kind self.now.sheet.now) }
     {
-        let records = self.pair(RECORDS);
-        let conditions = self.pair(CONDITIONS);
-        if !records.lies_within(16, self.sheet.len()) {
-            return Err(DirectoryFault::Bounds {
-                place: usize::from(RECORDS),
-            });
-        }
-        if !conditions.lies_within(records.end(), self.sheet.len()) {
-            return Err(DirectoryFault::Bounds {
-                place: usize::from(CONDITIONS),
-            });
-        }
-        if !self.kind.records().fills(records.len) {
-            return Err(DirectoryFault::Count {
-                place: usize::from(RECORDS) + 2,
-            });
-        }
-        if !RecordKind::Conditions.fills(conditions.len) {
-            return Err(DirectoryFault::Count {
-                place: usize::from(CONDITIONS) + 2,
-            });
-        }
-        Ok(())
+        let first = self.pair(RECORDS);
+        let second = self.pair(CONDITIONS);
+        let bytes = self.sheet.len();
+        check_limit(first.lies_within(16, bytes), bounds(RECORDS))?;
+        check_limit(second.lies_within(first.end(), bytes), bounds(CONDITIONS))?;
+        check_limit(self.kind.records().fills(first.len), count(RECORDS))?;
+        check_limit(RecordKind::Conditions.fills(second.len), count(CONDITIONS))
     }
 
     /// The limits of every condition record: refusal 6.

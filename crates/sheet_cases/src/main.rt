@@ -1,7 +1,8 @@
 //! Sheets that are accepted, and sheets that are refused: one line for each case.
 #![tactic(auto)]
 
-// Kept: the runtime stands beside a sheet or a table, since a function that prints is passed it.
+// Kept: the runtime and the allocator stand beside a sheet, a table or a kind: a struct of both would
+// be made for each call.
 mod changes;
 mod cuts;
 mod device_fields;

@@ -10,14 +10,14 @@ pub struct Counts(pub u16, pub u16);
 // Edge `e` between 64 nodes. Its guard is 8 conditions; that of the next edge begins 4 later, and
 // that of edge 255 ends with condition 1023.
 fn edge_record(e: u16) -> [u8; 8] {
-    let first = 4 * e.min(254);
+    let [high, low] = (4 * e.min(254)).to_be_bytes();
     [
         (e % 64) as u8,
         (e % 63) as u8,
         (e % 16 + 1) as u8,
         (e % 16) as u8,
-        (first / 256) as u8,
-        (first % 256) as u8,
+        high,
+        low,
         8,
         0,
     ]
@@ -80,11 +80,16 @@ pub(crate) fn full(heap: Global, kind: SheetKind, counts: Counts) -> Result<Shee
     let Counts(records, conditions) = counts;
     let mut bytes = Vec::from_slice(heap, &header)?;
     bytes.extend_from_slice(&directory(record_size, counts))?;
-    // Kept: each record may fail to be added for want of memory, which a `for` hands on by `?`.
-    for k in 0..records {
-        match kind {
-            SheetKind::Device => bytes.extend_from_slice(&edge_record(k))?,
-            SheetKind::Property => bytes.extend_from_slice(&line_record(k))?,
+    match kind {
+        SheetKind::Device => {
+            for k in 0..records {
+                bytes.extend_from_slice(&edge_record(k))?;
+            }
+        }
+        SheetKind::Property => {
+            for k in 0..records {
+                bytes.extend_from_slice(&line_record(k))?;
+            }
         }
     }
     for k in 0..conditions {

@@ -36,9 +36,9 @@ module _ (es : List ℕ) (rs : List (List ℕ)) (cut : rs ≡ first_chunks 8 (le
   record_of_bytes =
       let b = bytes in simp (b.0, b.1, b.2, b.3, b.4, b.5, b.6, b.7)
 
-  limits_of_bytes : (n c m at : ℕ) → edge_limits n c m r (at + 8 * e) 0 ≡ edge_limits n c m es at e
-  limits_of_bytes n c m at =
-      let b = bytes in simp (b.0, b.1, b.2, b.3, b.4, b.5, b.6, b.7, add-zero)
+  limits_of_bytes : (n c m at place : ℕ) → place ≡ at + 8 * e → edge_limits n c m r place 0 ≡ edge_limits n c m es at e
+  limits_of_bytes n c m at place same =
+      let b = bytes in simp (b.0, b.1, b.2, b.3, b.4, b.5, b.6, b.7, add-zero, same)
 
   -- the fields that were read of record e
   pub record_found : (x : EdgeRecord) → x ≡ record_at r 0 → Some x ≡ record_told es e
@@ -47,10 +47,10 @@ module _ (es : List ℕ) (rs : List (List ℕ)) (cut : rs ≡ first_chunks 8 (le
 
   -- the loop over the records, at record e
   module _ (n c m at : ℕ) (left : LeftFrom (edge_limits n c m es at) (length es / 8) e) where
-    pub edge_kept : Ok tt ≡ checked (edge_limits n c m r (at + 8 * e) 0) → LeftFrom (edge_limits n c m es at) (length es / 8) (e + 1)
-    edge_kept made =
-        goes_on (edge_limits n c m es at) (length es / 8) e left h (sym (made ∙ ap checked (limits_of_bytes n c m at)))
+    pub edge_kept : (place : ℕ) → place ≡ at + 8 * e → Ok tt ≡ checked (edge_limits n c m r place 0) → LeftFrom (edge_limits n c m es at) (length es / 8) (e + 1)
+    edge_kept place same made =
+        goes_on (edge_limits n c m es at) (length es / 8) e left h (sym (made ∙ ap checked (limits_of_bytes n c m at place same)))
 
-    pub edge_broken : (f : RecordFault) → Err f ≡ checked (edge_limits n c m r (at + 8 * e) 0) → Err f ≡ checked (of_each (edge_limits n c m es at) 0 (length es / 8))
-    edge_broken f made =
-        sym (stops (edge_limits n c m es at) (length es / 8) e left f h (sym (made ∙ ap checked (limits_of_bytes n c m at))))
+    pub edge_broken : (place : ℕ) → place ≡ at + 8 * e → (f : RecordFault) → Err f ≡ checked (edge_limits n c m r place 0) → Err f ≡ checked (of_each (edge_limits n c m es at) 0 (length es / 8))
+    edge_broken place same f made =
+        sym (stops (edge_limits n c m es at) (length es / 8) e left f h (sym (made ∙ ap checked (limits_of_bytes n c m at place same))))

@@ -43,15 +43,19 @@ pub(super) fn edge_records(section: &[u8]) -> &[[u8; 8]]
     ensures value { result.now ≡ first_chunks 8 (length section.now / 8) section.now }
     ensures count { length result.now ≡ length section.now / 8 }
 {
+    // Kept: lines have such a function, of another size; one for both would be a public function of
+    // another crate for this one call.
     section.as_chunks().0
 }
 
-/// The numbers that edges keep to: how many nodes, clocks and conditions there are.
+/// The numbers that edges keep to: how many nodes, clocks and conditions there are, and
+/// where the section begins in its sheet.
 #[derive(Clone, Copy)]
 pub(super) struct EdgeRules {
     nodes: u8,
     clocks: u8,
     conditions: usize,
+    at: u16,
 }
 
 impl EdgeRules {
@@ -80,15 +84,16 @@ impl EdgeRules {
         kind.require(edge.reserved == 0, place + 7)
     }
 
-    // The limits of every edge of a section that begins at this byte of the sheet.
-    fn check_each(self, section: &[u8], at: usize) -> Result<(), RecordFault>
-        requires { at ≤ 65535 }
-        ensures { result ≡ checked (of_each (edge_limits self.nodes self.clocks self.conditions section.now at) 0 (length section.now / 8)) }
+    // The limits of every edge of a section, one after the other.
+    fn check_each(self, section: &[u8]) -> Result<(), RecordFault>
+        ensures { result ≡ checked (of_each (edge_limits self.nodes self.clocks self.conditions section.now self.at) 0 (length section.now / 8)) }
     {
-        // Kept: lines and conditions have such a loop each; one for all would need a public trait over
-        // sizes of records, longer than the three loops.
+        // Kept: lines and conditions have such a loop each, in other crates. Tried: one public
+        // function that takes the check as a closure. It has to require that the closure may be
+        // called, and no public function here requires anything; nor is a closure over `&[u8; N]`
+        // proved yet. A trait over sizes, with a law, is longer than three loops of three lines.
         for (e, bytes) in edge_records(section).iter().enumerate() {
-            self.check_edge(bytes, at + 8 * e)?;
+            self.check_edge(bytes, usize::from(self.at) + 8 * e)?;
         }
         Ok(())
     }
@@ -108,7 +113,8 @@ impl SheetRecords for EdgeRules {
             nodes: reader.byte(1),
             clocks: reader.byte(2),
             conditions: sections.conditions.len() / 4,
+            at: reader.records_at() as u16,
         };
-        rules.check_each(sections.records, reader.records_at())
+        rules.check_each(sections.records)
     }
 }

@@ -1,79 +1,71 @@
 //! Devices in words.
-ghost use Rattle.std.specs.Prelude.{◌≡◌, IfOk, Some, string_bytes};
-ghost use Rattle.wording.specs.Devices.{clause_text, reset_text, edge_text, device_text};
+ghost use Rattle.std.specs.Prelude.{◌≡◌, IfOk, Some, string_bytes, true};
+ghost use Rattle.wording.specs.Devices.{clause_text, reset_clause, edge_line, device_text};
 
 use super::InWords;
 use super::each::write_each;
-use device::{ClockSet, Condition, Device, Edge, Number};
+use device::{Condition, Device, Edge, Number};
 use std::alloc::{AllocError, Global};
 use std::fmt;
 
-/// A condition of a guard; nothing where there is none.
+/// A condition of a guard.
 #[derive(Drop)]
-struct Clause(Option<Condition>);
+struct Clause(Condition);
 
 impl fmt::Display for Clause {
-    ghost output = { λ c. Some (clause_text c.0) };
+    ghost output = { λ c. Some (clause_text (Some c.0)) };
 
     fn fmt<W: fmt::Write>(&self, f: &mut fmt::Formatter<W>) -> fmt::Result {
-        if let Some(condition) = self.0 {
-            write!(f, ", when {}", InWords(condition))?;
-        }
-        Ok(())
+        write!(f, ", when {}", InWords(self.0))
     }
 }
 
-/// A clock that an edge resets; nothing if it is not in the edge's set.
+/// A clock that an edge resets.
 #[derive(Drop)]
-struct Reset {
-    resets: ClockSet,
-    clock: u8,
-}
+struct Reset(u8);
 
 impl fmt::Display for Reset {
-    ghost output = { λ r. Some (reset_text r.resets.bits r.clock) };
+    ghost output = { λ r. Some (reset_clause true r.0) };
 
     fn fmt<W: fmt::Write>(&self, f: &mut fmt::Formatter<W>) -> fmt::Result {
-        let clock = self.clock;
-        if self.resets.contains(clock) {
-            write!(f, ", reset clock {clock}")?;
-        }
-        Ok(())
+        write!(f, ", reset clock {}", self.0)
     }
 }
 
-/// The edge with this number; nothing where the device tells none.
+/// An edge of a device, with its number.
 #[derive(Drop)]
 struct NumberedEdge<'a, D> {
     device: &'a D,
     number: u32,
+    edge: Edge,
 }
 
 impl<D: Device> fmt::Display for NumberedEdge<'_, D> {
-    ghost output = { λ e. Some (edge_text (D.Device.meaning e.device.now) e.number) };
+    ghost output = { λ e. Some (edge_line (D.Device.meaning e.device.now) e.number (Some e.edge)) };
 
     fn fmt<W: fmt::Write>(&self, f: &mut fmt::Formatter<W>) -> fmt::Result {
         let device = self.device;
         let number = self.number;
-        let Some(edge) = device.edge(number) else {
-            return Ok(());
-        };
         let Edge {
             source,
             target,
             action,
             resets,
             conditions,
-        } = edge;
+        } = self.edge;
         write!(
             f,
             "edge {number}: from node {source} to node {target}, action {action}"
         )?;
+        let places = 0..u32::from(conditions);
         write_each(
             f,
-            (0..conditions).map(|place| Clause(device.condition(number, u32::from(place)))),
+            places.filter_map(|place| device.condition(number, place).map(Clause)),
         )?;
-        write_each(f, (0..8).map(|clock| Reset { resets, clock }))?;
+        write_each(
+            f,
+            (0..8).filter_map(|clock| resets.contains(clock).then_some(Reset(clock))),
+        )?;
         writeln!(f)
     }
 }
@@ -96,7 +88,16 @@ impl<D: Device> fmt::Display for WholeDevice<'_, D> {
             f,
             "device: nodes {nodes}, start {start}, clocks {clocks}, largest constant {constant}, edges {edges}"
         )?;
-        write_each(f, (0..edges).map(|number| NumberedEdge { device, number }))
+        write_each(
+            f,
+            (0..edges).filter_map(|number| {
+                device.edge(number).map(|edge| NumberedEdge {
+                    device,
+                    number,
+                    edge,
+                })
+            }),
+        )
     }
 }
 

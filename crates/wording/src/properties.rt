@@ -10,21 +10,18 @@ use property_sheet::Line;
 use std::alloc::{AllocError, Global};
 use std::fmt;
 
-/// A line with its number; nothing where there is none.
+/// A line with its number.
 #[derive(Drop)]
 struct NumberedLine {
     number: u8,
-    line: Option<Line>,
+    line: Line,
 }
 
 impl fmt::Display for NumberedLine {
-    ghost output = { λ l. Some (numbered_text l.number l.line) };
+    ghost output = { λ l. Some (numbered_text l.number (Some l.line)) };
 
     fn fmt<W: fmt::Write>(&self, f: &mut fmt::Formatter<W>) -> fmt::Result {
-        if let Some(line) = self.line {
-            writeln!(f, "line {}: {}", self.number, InWords(line))?;
-        }
-        Ok(())
+        writeln!(f, "line {}: {}", self.number, InWords(self.line))
     }
 }
 
@@ -46,9 +43,10 @@ impl fmt::Display for WholeProperty<'_> {
         )?;
         write_each(
             f,
-            (0..lines).map(|number| NumberedLine {
-                number,
-                line: property.line(number),
+            (0..lines).filter_map(|number| {
+                property
+                    .line(number)
+                    .map(|line| NumberedLine { number, line })
             }),
         )
     }

@@ -5,4 +5,4 @@ use Rattle.property.proofs.lines.LineRules.check_each.Given as goal
 
 abbrev pub invariant-loop-k : goal.invariant-loop-k
 invariant-loop-k l =
-    LeftFrom (line_limits l.self.lines l.self.clocks l.self.conditions l.section l.at) (length l.section / 4) l.k
+    LeftFrom (line_limits l.self.lines l.self.clocks l.self.conditions l.section l.self.at) (length l.section / 4) l.k

@@ -5,4 +5,4 @@ use Rattle.table.proofs.edges.EdgeRules.check_each.Given as goal
 
 abbrev pub invariant-loop-e : goal.invariant-loop-e
 invariant-loop-e l =
-    LeftFrom (edge_limits l.self.nodes l.self.clocks l.self.conditions l.section l.at) (length l.section / 8) l.e
+    LeftFrom (edge_limits l.self.nodes l.self.clocks l.self.conditions l.section l.self.at) (length l.section / 8) l.e
