@@ -6,3 +6,4 @@ pub mod Conditions
 pub mod TimedSteps
 pub mod Sizes
 pub mod Classes
+pub mod Resets
