@@ -31,7 +31,7 @@ impl<'a> Table<'a> {
         ensures { result ≡ record_told self.now.edges.now number }
     {
         let bytes = edge_records(self.edges).get(number as usize)?;
-        Some(EdgeRecord::from(*bytes))
+        Some(EdgeRecord::from(bytes))
     }
 }
 

@@ -21,11 +21,11 @@ pub(super) struct EdgeRecord {
     pub(super) reserved: u8,
 }
 
-impl From<[u8; 8]> for EdgeRecord {
-    ghost from_gives = { λ bytes r. r ≡ record_at bytes 0 };
+impl From<&[u8; 8]> for EdgeRecord {
+    ghost from_gives = { λ bytes r. r ≡ record_at bytes.now 0 };
 
-    fn from(bytes: [u8; 8]) -> EdgeRecord {
-        let [source, target, action, resets, high, low, count, reserved] = bytes;
+    fn from(bytes: &[u8; 8]) -> EdgeRecord {
+        let [source, target, action, resets, high, low, count, reserved] = *bytes;
         EdgeRecord {
             source,
             target,
@@ -71,7 +71,7 @@ impl EdgeRules {
         requires { place + 7 ≤ usize.MAX }
         ensures { result ≡ checked (edge_limits self.nodes self.clocks self.conditions bytes.now place 0) }
     {
-        let edge = EdgeRecord::from(*bytes);
+        let edge = EdgeRecord::from(bytes);
         let first = usize::from(edge.first);
         let count = usize::from(edge.count);
         let kind = RecordKind::Edges;
