@@ -64,8 +64,7 @@ fn walked(space: Space, count: u32) -> u32 {
 
 // Prints the classes of the clocks that are counted.
 fn print_classes(rt: HostRuntime, space: Space, region: Region) -> io::Result<()> {
-    let classes = region.clocks();
-    for class in classes.iter().take(usize::from(space.clocks())) {
+    for class in (0..space.clocks()).filter_map(|clock| region.clock(clock)) {
         print!(rt; " {class}")?;
     }
     Ok(())
